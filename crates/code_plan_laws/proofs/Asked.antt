@@ -10,7 +10,8 @@ use Rattle.std.specs.Option.{unwrap_or}
 use Rattle.disk_definitions.specs.Store.{segment_at}
 use Rattle.disk_definitions.specs.Held.{Segments, bitmap_of}
 use Rattle.disk_definitions.specs.OnDisk.{AreOfDisk}
-use Rattle.code_plan_laws.specs.Fresh.{first_bitmap, fresh_sectors, fresh_disk, FreshIsAsked, FreshIsAtHand}
+use Rattle.disk_definitions.specs.FreshDisk.{first_bitmap, fresh_sectors, fresh_disk}
+use Rattle.code_plan_laws.specs.Fresh.{FreshIsAsked, FreshIsAtHand}
 use Rattle.code_plan_laws.proofs.Blocks.{first_reads}
 use Rattle.code_plan_laws.proofs.Sectors.{apart}
 use Rattle.code_plan_laws.proofs.FreshStanding.{fresh_stands}

@@ -15,7 +15,7 @@ use Rattle.disk_definitions.specs.Inodes.{inode_bytes, inode_in}
 use Rattle.disk_definitions.proofs.ParamLaws.{param_back}
 use Rattle.disk_definitions.specs.Store.{StoredNode, stored_node}
 use Rattle.disk_definitions.specs.Naming.{first_blocks, inode_of}
-use Rattle.code_plan_laws.specs.Fresh.{fresh_param, first_bitmap, root_inode}
+use Rattle.disk_definitions.specs.FreshDisk.{fresh_param, first_bitmap, root_inode}
 
 -- zeros are 0 at every place
 zero_at : (n j : ℕ) → slice_index (zeros n) j ≡ 0

@@ -9,7 +9,8 @@ use Rattle.disk_definitions.proofs.WrittenFields.{length_zeros, zero_version}
 use Rattle.sector_bytes.specs.Sectors.{Sectors}
 use Rattle.disk_definitions.specs.Standing.{IsMetadata, IsInGrammar, HasVersionsUpTo, IsReached, StandsFor}
 use Rattle.disk_definitions.specs.OnDisk.{StandsBelow}
-use Rattle.code_plan_laws.specs.Fresh.{fresh_param, fresh_disk, FreshStands}
+use Rattle.disk_definitions.specs.FreshDisk.{fresh_param, fresh_disk}
+use Rattle.code_plan_laws.specs.Fresh.{FreshStands}
 use Rattle.code_plan_laws.proofs.Blocks.{param_reads, first_reads, zeros_read, root_reads, free_reads, first_version, root_version, param_long, first_long, root_long}
 use Rattle.code_plan_laws.proofs.Sectors.{each_sector, each_segment, each_inode}
 use Rattle.code_plan_laws.proofs.Stored.{store, uses}

@@ -13,7 +13,7 @@ use Rattle.disk_definitions.specs.Regions.{sector_of, bitmaps_from, inodes_from}
 use Rattle.disk_definitions.specs.Params.{param_bytes}
 use Rattle.disk_definitions.specs.Bitmaps.{bitmap_bytes}
 use Rattle.disk_definitions.specs.Inodes.{inode_bytes}
-use Rattle.code_plan_laws.specs.Fresh.{fresh_param, first_bitmap, root_inode, fresh_disk}
+use Rattle.disk_definitions.specs.FreshDisk.{fresh_param, first_bitmap, root_inode, fresh_disk}
 
 -- numbers apart aren't tied
 pub apart : (s k : ℕ) → s ≢ k → is_at (nat_cmp s) k ≡ false

@@ -12,7 +12,7 @@ use Rattle.sector_bytes.specs.Sectors.{Sectors}
 use Rattle.disk_definitions.specs.Store.{StoredNode, Store, store_of, stored_node, bit_in, use_in, use_by, large_in, segment_at}
 use Rattle.disk_definitions.specs.Store.Use.{Fresh}
 use Rattle.disk_definitions.specs.Naming.{inode_of}
-use Rattle.code_plan_laws.specs.Fresh.{fresh_disk}
+use Rattle.disk_definitions.specs.FreshDisk.{fresh_disk}
 use Rattle.code_plan_laws.proofs.Blocks.{first_reads, zeros_read, root_stored, none_stored, no_state, no_bit, one_bit}
 use Rattle.code_plan_laws.proofs.Sectors.{each_segment, later_segment, later_inode}
 

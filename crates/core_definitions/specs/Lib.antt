@@ -21,5 +21,8 @@ pub mod LineEffects
 pub mod WriteEffects
 pub mod EndEffects
 pub mod Effects
+pub mod Calls
 pub mod Enabled
 pub mod Runs
+pub mod Faults
+pub mod Opening

@@ -12,11 +12,13 @@ use Rattle.lock_definitions.specs.Same.{AllWishesWait, SameLocks}
 use Rattle.sector_bytes.specs.Sectors.{Sectors}
 use Rattle.tree_definitions.specs.SaidLines.{said_line}
 use Rattle.core_definitions.specs.Settings.{Setting}
+use Rattle.core_definitions.specs.Scripts.{host_party}
 use Rattle.core_definitions.specs.Servers.{wanting_all_up}
 use Rattle.core_definitions.specs.Cores.{Core, first_core, next_of, with_server}
 use Rattle.core_definitions.specs.Events.{Event, Heard}
 use Rattle.core_definitions.specs.Effects.{Deed, Made, Says, MayHear, after, deeds_of, disk_after}
-use Rattle.core_definitions.specs.LineGuards.{is_line, is_server}
+use Rattle.core_definitions.specs.LineEffects.{call_failed}
+use Rattle.core_definitions.specs.LineGuards.{is_server}
 use Rattle.core_definitions.specs.Guards.{Can}
 
 -- the core, the disk, and the record so far, the oldest deed first
@@ -73,15 +75,28 @@ is_note _ = false
 abbrev pub goes_on : Core → Bool
 goes_on c = not c.over && c.shown == 0
 
--- Enter, Hold, Flush, Relock, Note and Peek are listed by nobody; Peek is a get of the host that changes nothing
+-- a get of the host that changes nothing has failed: it is over, as after each failed call of the host
+abbrev pub peek_failed : State → State
+peek_failed s = record s { core = call_failed s.core host_party }
+
+-- it isn't over; this is the next line of a server, and it hasn't passed the gate yet
+pub record CanEnter (c : Core) (a : ℕ) (line : Line) : Type 0 where
+  pub going : IsTrue (not c.over)
+  pub server : IsTrue (is_server a)
+  pub next : next_of c a ≡ Some line
+  pub waits : IsTrue (not (c.passed line.number))
+
+-- Enter, Hold, Flush, Relock, Note, Peek and PeekFails are listed by nobody, and are steps of a core that isn't over; Peek and PeekFails are a get of the host that changes nothing, one
+-- that got its sector and one that failed
 pub data Step : State → State → Type 0 where
   Event_ : {s : State} (event : Event) (heard : Heard) → Makes s event heard → Step s (next s event heard)
-  Enter : {s : State} (a : ℕ) (line : Line) → next_of s.core a ≡ Some line → Step s (entered s line.number)
-  Hold : {s : State} (a : ℕ) (on : Bool) → IsTrue (is_server a) → Step s (held_on s a on)
-  Flush : {s : State} (a : ℕ) → IsTrue (is_server a) → Step s (flushed s a)
-  Relock : {s : State} (locks : Locks) → AreLocks locks → SameLocks locks s.core.locks → AllWishesWait locks → Step s (relocked s locks)
+  Enter : {s : State} (a : ℕ) (line : Line) → CanEnter s.core a line → Step s (entered s line.number)
+  Hold : {s : State} (a : ℕ) (on : Bool) → IsTrue (not s.core.over && is_server a) → Step s (held_on s a on)
+  Flush : {s : State} (a : ℕ) → IsTrue (not s.core.over && is_server a) → Step s (flushed s a)
+  Relock : {s : State} (locks : Locks) → IsTrue (not s.core.over) → AreLocks locks → SameLocks locks s.core.locks → AllWishesWait locks → Step s (relocked s locks)
   Note : {s : State} (line : Said) → IsTrue (is_note line && goes_on s.core) → Step s (noted s line)
-  Peek : {s : State} (sector : ℕ) → Step s s
+  Peek : {s : State} (sector : ℕ) → IsTrue (not s.core.over) → Step s s
+  PeekFails : {s : State} (sector : ℕ) → IsTrue (not s.core.over) → Step s (peek_failed s)
 
 pub data Run : State → State → Type 0 where
   Stays : {s : State} → Run s s

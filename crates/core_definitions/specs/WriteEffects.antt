@@ -12,13 +12,13 @@ use Rattle.ring_definitions.specs.Rings.{Ring, acked as ring_acked, issued as ri
 use Rattle.sector_bytes.specs.Blocks.{Block}
 use Rattle.sector_bytes.specs.SectorMaps.{value_at, without}
 use Rattle.core_definitions.specs.Settings.{Setting, lease_to}
-use Rattle.core_definitions.specs.Caches.{cleaned, dropped, still_has}
+use Rattle.core_definitions.specs.Caches.{cleaned, dropped}
 use Rattle.core_definitions.specs.Lines.{Under, operation_of}
 use Rattle.core_definitions.specs.Flights.{Flight, Flights, InPlace, OfLog, OfRecovery, Purpose, left_behind, lost}
 use Rattle.core_definitions.specs.Recoveries.{Recovery}
 use Rattle.core_definitions.specs.Scripts.{host_party, is_waited_for}
 use Rattle.core_definitions.specs.Servers.{Arming, Dead, Doomed, Fate, Phase, Server, Up, answer_at_death, first_server, wanting_all_up}
-use Rattle.core_definitions.specs.Writes.{Write}
+use Rattle.core_definitions.specs.Writes.{Write, comes_clean}
 use Rattle.core_definitions.specs.Cores.{Core, clean_at, next_of, stamp_of, with_server, writes}
 use Rattle.core_definitions.specs.Events.{Heard, Nothing, Got, GetFailed, Written, Late, PutFailed}
 use Rattle.core_definitions.specs.LineEffects.{call_failed}
@@ -88,7 +88,8 @@ resumed c a = record c { servers = put c.servers a (up_again c.setting c.now (c.
 
 -- ---- Arrive: acknowledged, late, or failed
 
--- a log number is acknowledged; a sector in place is clean where the cache still has this block, and is then neither wanted nor pending; a recovery's write is acknowledged for it
+-- a log number is acknowledged; a sector in place is clean where the cache still has this block and its mark is reached, and is then neither wanted nor pending; a recovery's write is
+-- acknowledged for it
 abbrev pub acknowledged_for : ℕ → Recovery → Recovery
 acknowledged_for sector recovery = record recovery { written = sector ∷ recovery.written }
 
@@ -101,7 +102,7 @@ clean_now sector server = record server {
 
 abbrev pub acknowledged : ℕ → Block → Purpose → Server → Server
 acknowledged sector block (OfLog number) server = record server { ring = ring_acked server.ring number }
-acknowledged sector block (InPlace cover) server = if still_has server.cache sector block then clean_now sector server else server
+acknowledged sector block (InPlace cover) server = if comes_clean server sector block then clean_now sector server else server
 acknowledged sector block OfRecovery server = record server { recovery = option_map (acknowledged_for sector) server.recovery }
 
 -- the write is gone

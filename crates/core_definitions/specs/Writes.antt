@@ -1,7 +1,7 @@
 -- The writes that a server or the host wants: of its log, in place, and of its recovery.
 use Rattle.std.specs.Prelude.{ℕ, ◌==◌, Bool, true, false, not, ◌&&◌, ◌||◌, if◌then◌else◌, nat_le, Option, Some, None, is_some, List, [], ◌∷◌, ◌++◌, map, fold}
 use Rattle.std.specs.List.{filter_map, list_any}
-use Rattle.std.specs.Option.{option_map}
+use Rattle.std.specs.Option.{option_and_then, option_map}
 use Rattle.frang_base.specs.Functions.{member}
 use Rattle.frang_base.specs.declared.lock.LockId.{LockId}
 use Rattle.frang_base.specs.declared.lock.Mode.TheVariants.{Shared, Sole}
@@ -10,11 +10,11 @@ use Rattle.lock_definitions.specs.Locks.{Locks, claims_of, held}
 use Rattle.lock_definitions.specs.Calls.{asked_for, serves}
 use Rattle.ring_definitions.specs.Rings.{Ring, last, sent}
 use Rattle.sector_bytes.specs.Blocks.{Block}
-use Rattle.sector_bytes.specs.SectorMaps.{with_value}
+use Rattle.sector_bytes.specs.SectorMaps.{value_at, with_value}
 use Rattle.core_definitions.specs.Settings.{LogRules, Setting}
 use Rattle.core_definitions.specs.Logs.{is_none, log_sector}
 use Rattle.core_definitions.specs.Rings.{has_room, is_in_window, is_oldest_named, next_write}
-use Rattle.core_definitions.specs.Caches.{Cache, Dirt, Kept, is_dirty_bytes}
+use Rattle.core_definitions.specs.Caches.{Cache, Dirt, Kept, is_dirty_bytes, still_has}
 use Rattle.core_definitions.specs.Lines.{Stage, Finishing}
 use Rattle.core_definitions.specs.Flights.{Purpose, OfLog, InPlace, OfRecovery}
 use Rattle.core_definitions.specs.Recoveries.{Recovery, recovery_writes}
@@ -98,6 +98,14 @@ wanted_writes setting locks number server stage =
 abbrev pub is_mark_reached : Ring → Option ℕ → Bool
 is_mark_reached ring None = true
 is_mark_reached ring (Some mark) = nat_le mark ring.reached
+
+-- the mark of a cached sector, where it is dirty
+abbrev pub mark_at : Cache → ℕ → Option ℕ
+mark_at cache sector = option_and_then (λ kept. option_map (λ dirt. dirt.mark) kept.dirt) (value_at cache sector)
+
+-- a sector in place is clean once a write of it has arrived: the cache still has this block of it, and its mark is reached
+abbrev pub comes_clean : Server → ℕ → Block → Bool
+comes_clean server sector block = still_has server.cache sector block && is_mark_reached server.ring (mark_at server.cache sector)
 
 -- of its log no number is in flight that is further past the acknowledged ones than the log's limit
 abbrev pub keeps_window : LogRules → Ring → Purpose → Bool

@@ -13,6 +13,9 @@ pub mod Outcomes
 pub mod Anew
 pub mod Clears
 pub mod Opening
+pub mod OpeningPuts
 pub mod Stays
 pub mod Parts
+pub mod Failing
+pub mod Failures
 pub mod Cleared

@@ -16,13 +16,13 @@ use Rattle.sector_bytes.specs.SectorMaps.{value_at}
 use Rattle.tree_definitions.specs.Apply.{is_path_op}
 use Rattle.core_definitions.specs.Settings.{Setting}
 use Rattle.core_definitions.specs.Sets.{LockSet, has_lock, next_segment, segments_in, to_ask}
-use Rattle.core_definitions.specs.Caches.{Cache, Kept, cleaned, still_has, usable}
+use Rattle.core_definitions.specs.Caches.{Cache, Kept, cleaned, usable}
 use Rattle.core_definitions.specs.Plans.{sight_over}
 use Rattle.core_definitions.specs.Lines.{Stage, Under, bitmap_sector, missing_bitmaps, operation_of, stage_asked, stage_held, stage_in_sight}
 use Rattle.core_definitions.specs.Flights.{Flight, InPlace, OfLog, OfRecovery, Purpose}
 use Rattle.core_definitions.specs.Scripts.{host_party}
 use Rattle.core_definitions.specs.Servers.{Phase, Server, is_open, is_up, stage_of, stage_under, stage_with}
-use Rattle.core_definitions.specs.Writes.{Write}
+use Rattle.core_definitions.specs.Writes.{Write, comes_clean}
 use Rattle.core_definitions.specs.Cores.{Core, stage}
 use Rattle.core_definitions.specs.Events.{Heard, Nothing, Got, GetFailed, Written, Late, PutFailed}
 use Rattle.core_definitions.specs.LineEffects.{call_failed, failed_by}
@@ -140,7 +140,7 @@ issue_stays c a sector (Some write) =
 acknowledged_alike : (sector : ℕ) (block : Block) (purpose : Purpose) (server : Server) → Alike server (acknowledged sector block purpose server)
 acknowledged_alike sector block (OfLog number) server = record { phase = refl; under = refl; blocks = refl }
 acknowledged_alike sector block OfRecovery server = record { phase = refl; under = refl; blocks = refl }
-acknowledged_alike sector block (InPlace cover) server = go (still_has server.cache sector block)
+acknowledged_alike sector block (InPlace cover) server = go (comes_clean server sector block)
   where
     go : (b : Bool) → Alike server (if b then clean_now sector server else server)
     go true = record { phase = refl; under = refl; blocks = blocks_cleaned server.cache sector }

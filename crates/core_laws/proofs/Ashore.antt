@@ -22,7 +22,7 @@ use Rattle.sector_bytes.specs.SectorMaps.{value_at, without}
 use Rattle.sector_bytes.specs.Sectors.{Sectors}
 use Rattle.tree_definitions.specs.Touched.{is_ok, is_unmount}
 use Rattle.tree_definitions.specs.Transcript.{is_halt}
-use Rattle.core_definitions.specs.Caches.{any_kept, is_dirty, still_has}
+use Rattle.core_definitions.specs.Caches.{any_kept, is_dirty}
 use Rattle.core_definitions.specs.Flights.{Flight, Flights, InPlace, OfLog, OfRecovery, Purpose, each_of_server, has_flights, is_of_mount, left_behind, lost}
 use Rattle.core_definitions.specs.Lines.{Stage, Asking, Fetching, Moving, Stopping, Growing, Clearing, Finishing, Under, operation_of}
 use Rattle.core_definitions.specs.Logs.{is_read}
@@ -32,7 +32,7 @@ use Rattle.core_definitions.specs.Rings.{is_all_reached}
 use Rattle.core_definitions.specs.Scripts.{host_party}
 use Rattle.core_definitions.specs.Servers.{Doomed, Phase, Off, Up, Still, Dead, Server, due_if, due_under, is_answering, is_clean, is_dead, is_off, is_up, own_answer, own_answer_of, wanting_all, wanting_all_up}
 use Rattle.core_definitions.specs.Settings.{LogRules, Setting}
-use Rattle.core_definitions.specs.Writes.{Write}
+use Rattle.core_definitions.specs.Writes.{Write, comes_clean}
 use Rattle.core_definitions.specs.Cores.{Core, clean_at, due_at, next_of, stage, with_server, writes}
 use Rattle.core_definitions.specs.Events.{Event, Begin, Ask, Fetch, Again, Clear, Commit, Answer, Give, Issue, Doom, Resume, Arrive, Lose, Die, Renew, Tick, Recover, Load, Look, Finish, HostLine, Close, Read, Show, End, Heard, Nothing, Got, GetFailed, Written, Late, PutFailed}
 use Rattle.core_definitions.specs.LineGuards.{is_server}
@@ -41,7 +41,7 @@ use Rattle.core_definitions.specs.LineEffects.{again_by, answered_by, answered_o
 use Rattle.core_definitions.specs.WriteEffects.{acknowledged, arrived_as, arrived_from, clean_now, died_in, flight_of, given_for, issued_as, landed, taken_in}
 use Rattle.core_definitions.specs.EndEffects.{finished_from, host_answered_line}
 use Rattle.core_definitions.specs.Effects.{after}
-use Rattle.core_definitions.specs.Runs.{State, Step, Event_, Enter, Hold, Flush, Relock, Note, Peek, Run, Stays, Goes, first_state, Makes}
+use Rattle.core_definitions.specs.Runs.{State, Step, Event_, Enter, Hold, Flush, Relock, Note, Peek, PeekFails, Run, Stays, Goes, first_state, Makes}
 use Rattle.core_laws.proofs.Memory.{Good, dead_of, given_due, is_resting, opened, up_rests_not}
 use Rattle.core_laws.proofs.Resting.{first_good, server_no_host, step_good}
 
@@ -172,7 +172,7 @@ again_phase logs (Some (Finishing outcome)) server = refl
 pub acknowledged_phase : (sector : ℕ) (block : Block) (purpose : Purpose) (server : Server) → (acknowledged sector block purpose server).phase ≡ server.phase
 acknowledged_phase sector block (OfLog number) server = refl
 acknowledged_phase sector block OfRecovery server = refl
-acknowledged_phase sector block (InPlace cover) server = go (still_has server.cache sector block)
+acknowledged_phase sector block (InPlace cover) server = go (comes_clean server sector block)
   where
     go : (b : Bool) → (if b then clean_now sector server else server).phase ≡ server.phase
     go true = refl
@@ -454,12 +454,13 @@ event_ashore s End heard m good g = g
 
 step_ashore : (s v : State) → Step s v → Good s.core → Ashore s.core → Ashore v.core
 step_ashore s v (Event_ event heard makes) good g = event_ashore s event heard makes good g
-step_ashore s v (Enter a line next) good g = g
-step_ashore s v (Hold a on server) good g = g
-step_ashore s v (Flush a server) good g = steady s.core a _ (wanting_phase (s.core.servers a)) g
-step_ashore s v (Relock locks are same wait) good g = g
+step_ashore s v (Enter a line can) good g = g
+step_ashore s v (Hold a on may) good g = g
+step_ashore s v (Flush a may) good g = steady s.core a _ (wanting_phase (s.core.servers a)) g
+step_ashore s v (Relock locks going are same wait) good g = g
 step_ashore s v (Note line may) good g = g
-step_ashore s v (Peek sector) good g = g
+step_ashore s v (Peek sector going) good g = g
+step_ashore s v (PeekFails sector going) good g = failed_ashore s.core host_party g
 
 run_ashore : (s v : State) → Run s v → Good s.core → Ashore s.core → Ashore v.core
 run_ashore s v Stays good g = g

@@ -27,7 +27,7 @@ use Rattle.core_definitions.specs.LineEffects.{answered_under, answered_with, ca
 use Rattle.core_definitions.specs.WriteEffects.{arrived_as, arrived_from, died_in, given_for, issued_as, landed, taken_in}
 use Rattle.core_definitions.specs.EndEffects.{closed, finished_from, host_answered_line}
 use Rattle.core_definitions.specs.Effects.{after}
-use Rattle.core_definitions.specs.Runs.{State, Step, Event_, Enter, Hold, Flush, Relock, Note, Peek, Run, Stays, Goes, first_state}
+use Rattle.core_definitions.specs.Runs.{State, Step, Event_, Enter, Hold, Flush, Relock, Note, Peek, PeekFails, Run, Stays, Goes, first_state}
 
 -- the clock hasn't gone back, and the locks are those before after some calls
 pub record Keeps (c d : Core) : Type 0 where
@@ -196,12 +196,13 @@ event_keeps c End heard = same c _ refl refl
 
 step_rises : (s v : State) → Step s v → s.core.now ≤ v.core.now
 step_rises s v (Event_ event heard makes) = (event_keeps s.core event heard).now
-step_rises s v (Enter a line next) = le_refl s.core.now
-step_rises s v (Hold a on server) = le_refl s.core.now
-step_rises s v (Flush a server) = le_refl s.core.now
-step_rises s v (Relock locks are same wait) = le_refl s.core.now
+step_rises s v (Enter a line can) = le_refl s.core.now
+step_rises s v (Hold a on may) = le_refl s.core.now
+step_rises s v (Flush a may) = le_refl s.core.now
+step_rises s v (Relock locks going are same wait) = le_refl s.core.now
 step_rises s v (Note line may) = le_refl s.core.now
-step_rises s v (Peek sector) = le_refl s.core.now
+step_rises s v (Peek sector going) = le_refl s.core.now
+step_rises s v (PeekFails sector going) = le_refl s.core.now
 
 then_rises : (x y z : ℕ) → x ≤ y → y ≤ z → x ≤ z
 then_rises x y z h i = omega (arith, h, i)
@@ -214,12 +215,13 @@ step_locks : (s v : State) → Step s v → AreLocks s.core.locks → AreLocks v
 step_locks s v (Event_ event heard makes) are =
     let k : Keeps s.core (after s.core event heard) = event_keeps s.core event heard in
     subst AreLocks (sym k.locks) (AreLocks-after_calls s.core.locks are k.calls)
-step_locks s v (Enter a line next) are = are
-step_locks s v (Hold a on server) are = are
-step_locks s v (Flush a server) are = are
-step_locks s v (Relock locks good same wait) are = good
+step_locks s v (Enter a line can) are = are
+step_locks s v (Hold a on may) are = are
+step_locks s v (Flush a may) are = are
+step_locks s v (Relock locks going good same wait) are = good
 step_locks s v (Note line may) are = are
-step_locks s v (Peek sector) are = are
+step_locks s v (Peek sector going) are = are
+step_locks s v (PeekFails sector going) are = are
 
 run_locks : (s v : State) → Run s v → AreLocks s.core.locks → AreLocks v.core.locks
 run_locks s v Stays are = are

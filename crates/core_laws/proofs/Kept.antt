@@ -22,7 +22,7 @@ use Rattle.core_definitions.specs.LineEffects.{answered_under, answered_with, ca
 use Rattle.core_definitions.specs.WriteEffects.{arrived_as, arrived_from, died_in, given_for, issued_as, landed}
 use Rattle.core_definitions.specs.EndEffects.{finished_from, host_answered_line}
 use Rattle.core_definitions.specs.Effects.{after}
-use Rattle.core_definitions.specs.Runs.{State, Step, Event_, Enter, Hold, Flush, Relock, Note, Peek, Run, first_state}
+use Rattle.core_definitions.specs.Runs.{State, Step, Event_, Enter, Hold, Flush, Relock, Note, Peek, PeekFails, Run, first_state}
 use Rattle.core_laws.proofs.Along.{along}
 
 either : (b : Bool) (c d e : Core) → d.setting ≡ c.setting → e.setting ≡ c.setting → (if b then d else e).setting ≡ c.setting
@@ -152,12 +152,13 @@ setting_kept c End heard = refl
 
 step_keeps : (s v : State) → Step s v → v.core.setting ≡ s.core.setting
 step_keeps s v (Event_ event heard makes) = setting_kept s.core event heard
-step_keeps s v (Enter a line follows) = refl
-step_keeps s v (Hold a on server) = refl
-step_keeps s v (Flush a server) = refl
-step_keeps s v (Relock locks are same wait) = refl
+step_keeps s v (Enter a line can) = refl
+step_keeps s v (Hold a on may) = refl
+step_keeps s v (Flush a may) = refl
+step_keeps s v (Relock locks going are same wait) = refl
 step_keeps s v (Note line may) = refl
-step_keeps s v (Peek sector) = refl
+step_keeps s v (Peek sector going) = refl
+step_keeps s v (PeekFails sector going) = refl
 
 pub setting_of_run : (setting : Setting) (disk : Sectors) (s : State) → Run (first_state setting disk) s → s.core.setting ≡ setting
 setting_of_run setting disk = along setting disk (λ s. s.core.setting ≡ setting) (λ s v run step same. step_keeps s v step ∙ same) refl

@@ -27,7 +27,6 @@ use Rattle.sector_bytes.specs.Sectors.{Sectors}
 use Rattle.sector_bytes.proofs.MapLaws.{found}
 use Rattle.tree_definitions.specs.Touched.{is_ok, is_unmount}
 use Rattle.tree_definitions.specs.Transcript.{is_halt}
-use Rattle.core_definitions.specs.Caches.{still_has}
 use Rattle.core_definitions.specs.Flights.{Flight, Flights, InPlace, OfLog, OfRecovery, Purpose, each_of_server, has_flights, is_of_mount, left_behind, lost}
 use Rattle.core_definitions.specs.Lines.{Stage, Asking, Fetching, Moving, Stopping, Growing, Clearing, Finishing, Under, operation_of}
 use Rattle.core_definitions.specs.Logs.{is_read}
@@ -36,7 +35,7 @@ use Rattle.core_definitions.specs.Recoveries.{Recovery}
 use Rattle.core_definitions.specs.Scripts.{host_party}
 use Rattle.core_definitions.specs.Servers.{Phase, Off, Up, Still, Doomed, Dead, Server, due_if, due_under, is_answering, is_dead, is_off, is_still, is_up, own_answer, own_answer_of, wanting_all, wanting_all_up}
 use Rattle.core_definitions.specs.Settings.{LogRules, Setting, lease_to}
-use Rattle.core_definitions.specs.Writes.{Write}
+use Rattle.core_definitions.specs.Writes.{Write, comes_clean}
 use Rattle.core_definitions.specs.Cores.{Core, clean_at, due_at, expiry_of, next_of, stage, writes}
 use Rattle.core_definitions.specs.Events.{Event, Begin, Ask, Fetch, Again, Clear, Commit, Answer, Give, Issue, Doom, Resume, Arrive, Lose, Die, Renew, Tick, Recover, Load, Look, Finish, HostLine, Close, Read, Show, End, Heard, Nothing, Got, GetFailed, Written, Late, PutFailed}
 use Rattle.core_definitions.specs.LineGuards.{is_server}
@@ -46,7 +45,7 @@ use Rattle.core_definitions.specs.LineEffects.{again_by, answered_by, answered_o
 use Rattle.core_definitions.specs.WriteEffects.{acknowledged, arrived_as, arrived_from, clean_now, counted, died_in, flight_of, given_for, issued_as, landed, ring_after, taken_in}
 use Rattle.core_definitions.specs.EndEffects.{finished_by, finished_from, host_answered_line}
 use Rattle.core_definitions.specs.Effects.{after}
-use Rattle.core_definitions.specs.Runs.{State, Step, Event_, Enter, Hold, Flush, Relock, Note, Peek, Run, first_state, Makes}
+use Rattle.core_definitions.specs.Runs.{State, Step, Event_, Enter, Hold, Flush, Relock, Note, Peek, PeekFails, Run, first_state, Makes}
 use Rattle.core_laws.specs.Laws.{AreOnce}
 use Rattle.core_laws.proofs.Along.{along}
 use Rattle.core_laws.proofs.Flying.{Once, once_of}
@@ -255,7 +254,7 @@ again_expiry logs (Some (Finishing outcome)) server = refl
 acknowledged_expiry : (sector : ℕ) (block : Block) (purpose : Purpose) (server : Server) → (acknowledged sector block purpose server).expiry ≡ server.expiry
 acknowledged_expiry sector block (OfLog number) server = refl
 acknowledged_expiry sector block OfRecovery server = refl
-acknowledged_expiry sector block (InPlace cover) server = go (still_has server.cache sector block)
+acknowledged_expiry sector block (InPlace cover) server = go (comes_clean server sector block)
   where
     go : (b : Bool) → (if b then clean_now sector server else server).expiry ≡ server.expiry
     go true = refl
@@ -635,12 +634,13 @@ event_leased s End heard m k l = calm s.core _ refl (λ i. refl) (same_flights s
 
 step_leased : (s v : State) → Step s v → Known s.core → Leased s.core → Leased v.core
 step_leased s v (Event_ event heard makes) k l = event_leased s event heard makes k l
-step_leased s v (Enter a line follows) k l = calm s.core v.core refl (λ i. refl) (same_flights s.core.flights) l
-step_leased s v (Hold a on server) k l = calm s.core v.core refl (λ i. refl) (same_flights s.core.flights) l
-step_leased s v (Flush a server) k l = steady s.core a _ (wanting_phase (s.core.servers a)) (wanting_expiry (s.core.servers a)) l
-step_leased s v (Relock locks are same wait) k l = calm s.core v.core refl (λ i. refl) (same_flights s.core.flights) l
+step_leased s v (Enter a line can) k l = calm s.core v.core refl (λ i. refl) (same_flights s.core.flights) l
+step_leased s v (Hold a on may) k l = calm s.core v.core refl (λ i. refl) (same_flights s.core.flights) l
+step_leased s v (Flush a may) k l = steady s.core a _ (wanting_phase (s.core.servers a)) (wanting_expiry (s.core.servers a)) l
+step_leased s v (Relock locks going are same wait) k l = calm s.core v.core refl (λ i. refl) (same_flights s.core.flights) l
 step_leased s v (Note line may) k l = l
-step_leased s v (Peek sector) k l = l
+step_leased s v (Peek sector going) k l = l
+step_leased s v (PeekFails sector going) k l = failed_leased s.core host_party l
 
 leased_of_run : (setting : Setting) (disk : Sectors) (s : State) → Run (first_state setting disk) s → Leased s.core
 leased_of_run setting disk =

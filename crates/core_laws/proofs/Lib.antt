@@ -11,6 +11,7 @@ pub mod Single
 pub mod Along
 pub mod Kept
 mod Ending
+mod Ended
 mod Timing
 pub mod Memory
 pub mod Resting
@@ -24,13 +25,15 @@ mod Recovering
 mod Sorting
 mod Stages
 mod Servers
-mod OrderKeeping
+pub mod OrderKeeping
 mod Blocks
 mod Rows
 mod Ticks
 mod EventKeys
 mod Lasting
-mod Asked
+pub mod Asked
 mod Wishing
 mod Lists
 mod Waiting
+mod Hearing
+mod Opened

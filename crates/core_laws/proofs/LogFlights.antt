@@ -147,9 +147,9 @@ with_record logs fly ring (Some redo) room s = record {
         subst (λ n. sent ring + n ≤ ring.given_up + logs.room) (sym (length-framed (last ring + 1) ring.waiting (frame_bytes redo)))
         (within logs.room (sent ring) (length ring.waiting) (need ring redo) ring.given_up s.windows.kept s.windows.given (leb-true (need ring redo) (free_of logs.room ring) room))
 
--- the oldest records are given up
-pub without_oldest : (logs : LogRules) (fly : ℕ → Bool) (ring : Ring) → IsShipped logs fly ring → IsShipped logs fly (reclaimed_of logs.quarter ring)
-without_oldest logs fly ring s = record {
+-- the reclaimable records are given up
+pub without_reclaimable : (logs : LogRules) (fly : ℕ → Bool) (ring : Ring) → IsShipped logs fly ring → IsShipped logs fly (reclaimed_of logs.quarter ring)
+without_reclaimable logs fly ring s = record {
   windows = record { window = s.windows.window; kept = kept logs.room logs.quarter ring.given_up (sent ring) (last ring) s.windows.kept s.windows.given; given = given logs.quarter ring.given_up (sent ring) };
   flags = s.flags;
   above = s.above;

@@ -16,14 +16,14 @@ use Rattle.sector_bytes.specs.Blocks.{Block}
 use Rattle.tree_definitions.specs.Apply.{is_path_op}
 use Rattle.tree_definitions.specs.Touched.{is_ok, is_unmount}
 use Rattle.core_definitions.specs.Settings.{LogRules}
-use Rattle.core_definitions.specs.Caches.{cleaned, still_has}
+use Rattle.core_definitions.specs.Caches.{cleaned}
 use Rattle.core_definitions.specs.Logs.{is_read}
 use Rattle.core_definitions.specs.Lines.{Stage, Asking, Fetching, Moving, Stopping, Growing, Clearing, Finishing, Under, operation_of}
 use Rattle.core_definitions.specs.Flights.{Flight, InPlace, OfLog, OfRecovery, Purpose}
 use Rattle.core_definitions.specs.Recoveries.{Recovery}
 use Rattle.core_definitions.specs.Scripts.{host_party}
 use Rattle.core_definitions.specs.Servers.{Arming, Phase, Off, Up, Still, Doomed, Dead, Server, answer_of, asks, due_if, due_under, is_answering, is_dead, is_off, is_still, is_up, own_answer, own_answer_of, stage_under, wanting_all, wanting_all_up}
-use Rattle.core_definitions.specs.Writes.{Write}
+use Rattle.core_definitions.specs.Writes.{Write, comes_clean}
 use Rattle.core_definitions.specs.Cores.{Core, due_at, stage}
 use Rattle.core_definitions.specs.Events.{Heard, Nothing, Got, GetFailed, Written, Late, PutFailed}
 use Rattle.core_definitions.specs.LineGuards.{is_server}
@@ -347,7 +347,7 @@ clean_mild a sector server false = self a server
 
 acknowledged_mild : (a sector : ℕ) (block : Block) (purpose : Purpose) (server : Server) → Mild a server (acknowledged sector block purpose server)
 acknowledged_mild a sector block (OfLog number) server = unmoved a _ _ refl refl refl refl refl refl refl
-acknowledged_mild a sector block (InPlace cover) server = clean_mild a sector server (still_has server.cache sector block)
+acknowledged_mild a sector block (InPlace cover) server = clean_mild a sector server (comes_clean server sector block)
 acknowledged_mild a sector block OfRecovery server = rescued a server (acknowledged_for sector) (λ r. refl)
 
 taken_good : (c : Core) (flight : Flight) → Good c → Good (taken_in c flight)

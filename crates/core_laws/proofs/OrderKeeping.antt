@@ -33,7 +33,7 @@ use Rattle.core_definitions.specs.LineEffects.{answered_under, answered_with, ca
 use Rattle.core_definitions.specs.WriteEffects.{arrived_as, arrived_from, died_in, flight_of, given_for, issued_as, landed, taken_in}
 use Rattle.core_definitions.specs.EndEffects.{finished_from, host_answered_line}
 use Rattle.core_definitions.specs.Effects.{after}
-use Rattle.core_definitions.specs.Runs.{State, Step, Event_, Enter, Hold, Flush, Relock, Note, Peek, Run, first_state}
+use Rattle.core_definitions.specs.Runs.{State, Step, Event_, Enter, Hold, Flush, Relock, Note, Peek, PeekFails, Run, first_state}
 use Rattle.core_laws.proofs.Along.{along}
 use Rattle.core_laws.specs.Orders.{AreLinesInOrder, AreRecoveriesInOrder, IsInOrder, IsServerInOrder}
 use Rattle.core_laws.proofs.Servers.{acknowledged_order, again_order, answer_order, bare_order, begun_order, cleared_order, committed_order, died_order, fetched_order, given_order, refused_order, rescued_order, wanting_order, wanting_up_order}
@@ -333,12 +333,13 @@ event_kept c End heard k = same_kept c _ refl refl refl refl k
 
 step_kept : (s v : State) → Step s v → Kept s.core → Kept v.core
 step_kept s v (Event_ event heard makes) k = event_kept s.core event heard k
-step_kept s v (Enter a line next) k = same_kept s.core v.core refl refl refl refl k
-step_kept s v (Hold a on server) k = same_kept s.core v.core refl refl refl refl k
-step_kept s v (Flush a server) k = one_changed s.core a _ k (wanting_up_order (s.core.servers a) (k.servers a))
-step_kept s v (Relock locks good same wait) k = same_kept s.core v.core refl refl refl refl k
+step_kept s v (Enter a line can) k = same_kept s.core v.core refl refl refl refl k
+step_kept s v (Hold a on may) k = same_kept s.core v.core refl refl refl refl k
+step_kept s v (Flush a may) k = one_changed s.core a _ k (wanting_up_order (s.core.servers a) (k.servers a))
+step_kept s v (Relock locks going good same wait) k = same_kept s.core v.core refl refl refl refl k
 step_kept s v (Note line may) k = k
-step_kept s v (Peek sector) k = k
+step_kept s v (Peek sector going) k = k
+step_kept s v (PeekFails sector going) k = failed_kept s.core host_party k
 
 first_kept : (setting : Setting) (disk : Sectors) → Kept (first_state setting disk).core
 first_kept setting disk = record {

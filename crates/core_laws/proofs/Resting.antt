@@ -25,7 +25,7 @@ use Rattle.core_definitions.specs.EndGuards.{CanClose, CanFinish, CanRecover, is
 use Rattle.core_definitions.specs.LineEffects.{fetch_failed}
 use Rattle.core_definitions.specs.EndEffects.{finished_from, host_answered_line, look_made, recovered, slot_loaded}
 use Rattle.core_definitions.specs.Effects.{after}
-use Rattle.core_definitions.specs.Runs.{State, Step, Event_, Enter, Hold, Flush, Relock, Note, Peek, Run, Stays, Goes, first_state, Makes}
+use Rattle.core_definitions.specs.Runs.{State, Step, Event_, Enter, Hold, Flush, Relock, Note, Peek, PeekFails, Run, Stays, Goes, first_state, Makes}
 use Rattle.core_laws.specs.Facts.{HasNothing}
 use Rattle.core_laws.proofs.Guarding.{Of4, of_4}
 use Rattle.core_laws.proofs.Parties.{worker_in_parties}
@@ -296,12 +296,13 @@ event_good s End heard m g = g
 
 pub step_good : (s v : State) → Step s v → Good s.core → Good v.core
 step_good s v (Event_ event heard makes) g = event_good s event heard makes g
-step_good s v (Enter a line next) g = g
-step_good s v (Hold a on server) g = g
-step_good s v (Flush a server) g = put_safe s.core.servers a _ g (wanting_mild a (s.core.servers a))
-step_good s v (Relock locks good same wait) g = g
+step_good s v (Enter a line can) g = g
+step_good s v (Hold a on may) g = g
+step_good s v (Flush a may) g = put_safe s.core.servers a _ g (wanting_mild a (s.core.servers a))
+step_good s v (Relock locks going good same wait) g = g
 step_good s v (Note line may) g = g
-step_good s v (Peek sector) g = g
+step_good s v (Peek sector going) g = g
+step_good s v (PeekFails sector going) g = g
 
 run_good : (s v : State) → Run s v → Good s.core → Good v.core
 run_good s v Stays g = g

@@ -22,8 +22,9 @@ use Rattle.sector_bytes.proofs.MapLaws.{ascend_with, ascend_without}
 use Rattle.sorted_entries.proofs.Sorted.{sorted-insert_entry}
 use Rattle.tree_definitions.specs.Apply.{is_path_op}
 use Rattle.tree_definitions.specs.Touched.{is_ok, is_unmount}
+use Rattle.core_definitions.specs.Writes.{comes_clean}
 use Rattle.core_definitions.specs.Settings.{LogRules}
-use Rattle.core_definitions.specs.Caches.{Cache, Kept, cleaned, dirty_sectors, dropped, each_kept, still_has}
+use Rattle.core_definitions.specs.Caches.{Cache, Kept, cleaned, dirty_sectors, dropped, each_kept}
 use Rattle.core_definitions.specs.Flights.{InPlace, OfLog, OfRecovery, Purpose}
 use Rattle.core_definitions.specs.Lines.{Stage, Asking, Fetching, Moving, Stopping, Growing, Clearing, Finishing, Under, operation_of, set_at_first}
 use Rattle.core_definitions.specs.Plans.{Outcome}
@@ -213,7 +214,7 @@ rescued_order server change keeps s = record { cache = s.cache; staying = s.stay
 pub acknowledged_order : (sector : ℕ) (block : Block) (purpose : Purpose) (server : Server) → IsServerInOrder server →
     IsServerInOrder (acknowledged sector block purpose server)
 acknowledged_order sector block (OfLog number) server s = record { cache = s.cache; staying = s.staying; pending = s.pending; under = s.under; recovery = s.recovery }
-acknowledged_order sector block (InPlace cover) server s = clean_order sector server (still_has server.cache sector block) s
+acknowledged_order sector block (InPlace cover) server s = clean_order sector server (comes_clean server sector block) s
 acknowledged_order sector block OfRecovery server s = rescued_order server (acknowledged_for sector) (λ r o. record { slots = o.slots; looked = o.looked }) s
 
 pub died_order : (fate : Fate) (server : Server) → IsServerInOrder server → IsServerInOrder (died_with fate server)

@@ -22,7 +22,7 @@ use Rattle.core_definitions.specs.LineEffects.{answered_under, answered_with, ca
 use Rattle.core_definitions.specs.WriteEffects.{arrived_as, arrived_from, died_in, given_for, issued_as, landed}
 use Rattle.core_definitions.specs.EndEffects.{finished_from, host_answered_line}
 use Rattle.core_definitions.specs.Effects.{after}
-use Rattle.core_definitions.specs.Runs.{State, Step, Event_, Enter, Hold, Flush, Relock, Note, Peek, Run, Stays, Goes, first_state}
+use Rattle.core_definitions.specs.Runs.{State, Step, Event_, Enter, Hold, Flush, Relock, Note, Peek, PeekFails, Run, Stays, Goes, first_state}
 use Rattle.std.specs.Map.{keys_of}
 use Rattle.tree_definitions.specs.Transcript.{is_halt}
 use Rattle.core_definitions.specs.Flights.{Flights, left_behind, lost}
@@ -180,12 +180,13 @@ event_good s End heard m g = g
 
 step_good : (s v : State) → Step s v → Good s.core → Good v.core
 step_good s v (Event_ event heard makes) g = event_good s event heard makes g
-step_good s v (Enter a line next) g = g
-step_good s v (Hold a on server) g = g
-step_good s v (Flush a server) g = g
-step_good s v (Relock locks good same wait) g = g
+step_good s v (Enter a line can) g = g
+step_good s v (Hold a on may) g = g
+step_good s v (Flush a may) g = g
+step_good s v (Relock locks going good same wait) g = g
 step_good s v (Note line may) g = g
-step_good s v (Peek sector) g = g
+step_good s v (Peek sector going) g = g
+step_good s v (PeekFails sector going) g = g
 
 run_good : (s v : State) → Run s v → Good s.core → Good v.core
 run_good s v Stays g = g

@@ -15,7 +15,7 @@ use Rattle.core_definitions.specs.Cores.{Core, due_at, stage, tree_lines, writes
 use Rattle.core_definitions.specs.Events.{Event, Begin, Ask, Fetch, Again, Clear, Commit, Answer, Give, Issue, Doom, Resume, Arrive, Lose, Die, Renew, Tick, Recover, Load, Look, Finish, HostLine, Close, Read, Show, End, Heard, Nothing, Got, GetFailed, Written, Late, PutFailed}
 use Rattle.core_definitions.specs.WriteGuards.{CanIssue, is_write}
 use Rattle.core_definitions.specs.Effects.{Deed, MayArrive, MayHear, Says, deeds_of, deeds_of_arrival, reply_by, says_answer, says_node, says_recovered}
-use Rattle.core_definitions.specs.Runs.{State, Step, Event_, Enter, Hold, Flush, Relock, Note, Peek, Run, Stays, Goes, first_state, next}
+use Rattle.core_definitions.specs.Runs.{State, Step, Event_, Enter, Hold, Flush, Relock, Note, Peek, PeekFails, Run, Stays, Goes, first_state, next}
 use Rattle.core_laws.specs.Facts.{AreTimely}
 
 said_timely : (a : ℕ) (under : Option Under) (answer : Option Reply) → AreTimely (says_answer a under answer)
@@ -74,12 +74,13 @@ joined_timely (x ∷ xs) ys t u = (t.0, joined_timely xs ys t.1 u)
 
 step_timely : (s v : State) → Step s v → AreTimely s.record_ → AreTimely v.record_
 step_timely s v (Event_ event heard makes) t = joined_timely s.record_ (deeds_of s.core event heard) t (event_timely s event heard makes.hears)
-step_timely s v (Enter a line next) t = t
-step_timely s v (Hold a on server) t = t
-step_timely s v (Flush a server) t = t
-step_timely s v (Relock locks good same wait) t = t
+step_timely s v (Enter a line can) t = t
+step_timely s v (Hold a on may) t = t
+step_timely s v (Flush a may) t = t
+step_timely s v (Relock locks going good same wait) t = t
 step_timely s v (Note line may) t = joined_timely s.record_ (Says line ∷ []) t (tt, tt)
-step_timely s v (Peek sector) t = t
+step_timely s v (Peek sector going) t = t
+step_timely s v (PeekFails sector going) t = t
 
 run_timely : (s v : State) → Run s v → AreTimely s.record_ → AreTimely v.record_
 run_timely s v Stays t = t

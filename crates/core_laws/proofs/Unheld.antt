@@ -45,7 +45,7 @@ use Rattle.core_definitions.specs.LineEffects.{answered_by, answered_open, answe
 use Rattle.core_definitions.specs.WriteEffects.{arrived_as, arrived_from, died_in, given_for, issued_as, landed, taken_in}
 use Rattle.core_definitions.specs.EndEffects.{finished_by, finished_from, host_answered_line}
 use Rattle.core_definitions.specs.Effects.{after}
-use Rattle.core_definitions.specs.Runs.{State, Step, Event_, Enter, Hold, Flush, Relock, Note, Peek, Run, first_state, Makes}
+use Rattle.core_definitions.specs.Runs.{State, Step, Event_, Enter, Hold, Flush, Relock, Note, Peek, PeekFails, Run, first_state, Makes}
 use Rattle.core_laws.proofs.Keeping.{locks_of_run}
 use Rattle.core_laws.proofs.Along.{along}
 use Rattle.core_laws.proofs.Ashore.{acknowledged_phase, again_phase, begun_phase, fetched_phase, wanting_phase}
@@ -458,12 +458,13 @@ event_unheld s End heard m are u = u
 
 step_unheld : (s v : State) → Step s v → AreLocks s.core.locks → Unheld s.core → Unheld v.core
 step_unheld s v (Event_ event heard makes) are u = event_unheld s event heard makes are u
-step_unheld s v (Enter a line next) are u = u
-step_unheld s v (Hold a on server) are u = u
-step_unheld s v (Flush a server) are u = steady s.core a _ (wanting_phase (s.core.servers a)) u
-step_unheld s v (Relock locks good same wait) are u = calm s.core v.core (λ i. refl) (λ i server t b. relocked_bare locks s.core.locks good same wait i b) u
+step_unheld s v (Enter a line can) are u = u
+step_unheld s v (Hold a on may) are u = u
+step_unheld s v (Flush a may) are u = steady s.core a _ (wanting_phase (s.core.servers a)) u
+step_unheld s v (Relock locks going good same wait) are u = calm s.core v.core (λ i. refl) (λ i server t b. relocked_bare locks s.core.locks good same wait i b) u
 step_unheld s v (Note line may) are u = u
-step_unheld s v (Peek sector) are u = u
+step_unheld s v (Peek sector going) are u = u
+step_unheld s v (PeekFails sector going) are u = failed_unheld s.core host_party u
 
 bare_at_first : (i : ℕ) → Bare no_locks i
 unfolding no_clerks no_logs

@@ -21,7 +21,6 @@ use Rattle.sector_bytes.specs.SectorMaps.{value_at}
 use Rattle.sector_bytes.specs.Sectors.{Sectors}
 use Rattle.tree_definitions.specs.Touched.{is_ok, is_unmount}
 use Rattle.tree_definitions.specs.Transcript.{is_halt}
-use Rattle.core_definitions.specs.Caches.{still_has}
 use Rattle.core_definitions.specs.Flights.{Flight, Flights, InPlace, OfLog, OfRecovery, Purpose, has_flights, left_behind, lost}
 use Rattle.core_definitions.specs.Lines.{Stage, Asking, Fetching, Moving, Stopping, Growing, Clearing, Finishing, Under, operation_of}
 use Rattle.core_definitions.specs.Logs.{end_of, is_read, log_sector}
@@ -30,7 +29,7 @@ use Rattle.core_definitions.specs.Recoveries.{Recovery}
 use Rattle.core_definitions.specs.Scripts.{host_party}
 use Rattle.core_definitions.specs.Servers.{Phase, Off, Up, Still, Doomed, Dead, Server, due_if, due_under, is_answering, is_dead, is_off, is_up, own_answer, own_answer_of, wanting_all, wanting_all_up}
 use Rattle.core_definitions.specs.Settings.{LogRules, Setting}
-use Rattle.core_definitions.specs.Writes.{Write, keeps_window}
+use Rattle.core_definitions.specs.Writes.{Write, keeps_window, comes_clean}
 use Rattle.core_definitions.specs.Cores.{Core, clean_at, due_at, next_of, stage, with_server, writes}
 use Rattle.core_definitions.specs.Events.{Event, Begin, Ask, Fetch, Again, Clear, Commit, Answer, Give, Issue, Doom, Resume, Arrive, Lose, Die, Renew, Tick, Recover, Load, Look, Finish, HostLine, Close, Read, Show, End, Heard, Nothing, Got, GetFailed, Written, Late, PutFailed}
 use Rattle.core_definitions.specs.LineGuards.{done_by, has_room_for, is_server}
@@ -39,7 +38,7 @@ use Rattle.core_definitions.specs.LineEffects.{again_by, answered_by, answered_o
 use Rattle.core_definitions.specs.WriteEffects.{acknowledged, arrived_as, arrived_from, clean_now, counted, died_in, flight_of, given_for, issued_as, landed, ring_after, taken_in}
 use Rattle.core_definitions.specs.EndEffects.{finished_by, finished_from, host_answered_line}
 use Rattle.core_definitions.specs.Effects.{after}
-use Rattle.core_definitions.specs.Runs.{State, Step, Event_, Enter, Hold, Flush, Relock, Note, Peek, Run, first_state, Makes}
+use Rattle.core_definitions.specs.Runs.{State, Step, Event_, Enter, Hold, Flush, Relock, Note, Peek, PeekFails, Run, first_state, Makes}
 use Rattle.core_laws.specs.Facts.{IsInFlightWindow, KeepsWindows, log_slots}
 use Rattle.core_laws.specs.Laws.{AreOnce}
 use Rattle.core_laws.proofs.Flying.{sectors_in}
@@ -49,7 +48,7 @@ use Rattle.core_laws.proofs.Along.{along}
 use Rattle.core_laws.proofs.Kept.{setting_of_run}
 use Rattle.core_laws.proofs.Ashore.{ashore_of_run}
 use Rattle.core_laws.proofs.FlightLists.{all_changed, all_joined, all_landed, all_lost, in_flights}
-use Rattle.core_laws.proofs.LogFlights.{AllAtSlots, IsAtSlot, IsAtSlotFor, IsShipped, at_first, fewer_behind, fewer_changed, fewer_landed, fewer_lost, flies, is_log_flight, is_number, more_joined, none_flies, none_left, slot_of_found, slots_once, with_acknowledged, with_fewer, with_issued, with_record, without_oldest}
+use Rattle.core_laws.proofs.LogFlights.{AllAtSlots, IsAtSlot, IsAtSlotFor, IsShipped, at_first, fewer_behind, fewer_changed, fewer_landed, fewer_lost, flies, is_log_flight, is_number, more_joined, none_flies, none_left, slot_of_found, slots_once, with_acknowledged, with_fewer, with_issued, with_record, without_reclaimable}
 use Rattle.core_laws.proofs.Memory.{Good, dead_of, opened}
 use Rattle.core_laws.proofs.Resting.{good_of_run}
 use Rattle.core_laws.proofs.WantedWrites.{IsNextOfLog, next_of_log}
@@ -135,7 +134,7 @@ again_shipped logs fly (Some Moving) server s = s
 again_shipped logs fly (Some Stopping) server s = s
 again_shipped logs fly (Some (Growing needs seen)) server s = s
 again_shipped logs fly (Some (Clearing block)) server s = s
-again_shipped logs fly (Some (Finishing outcome)) server s = without_oldest logs fly server.ring s
+again_shipped logs fly (Some (Finishing outcome)) server s = without_reclaimable logs fly server.ring s
 
 again_ships : (c : Core) (a : ℕ) → Ships c → Ships (after c (Again a) Nothing)
 again_ships c a g = moved c (after c (Again a) Nothing) a _ refl refl (λ i number h. h) g.slots (λ s. again_shipped c.setting.logs (flies c.flights a) (stage c a) (c.servers a) s) g
@@ -335,7 +334,7 @@ landed_ships : (c : Core) (ticket : ℕ) → Ships c → Ships (landed c ticket)
 landed_ships c ticket g = calm c (landed c ticket) (λ i. refl) refl (λ i number h. fewer_landed ticket i number c.flights h) (all_landed (IsAtSlot c.setting.logs) ticket c.flights g.slots) g
 
 acknowledged_ring : (sector : ℕ) (block : Block) (cover : LockId) (server : Server) → (acknowledged sector block (InPlace cover) server).ring ≡ server.ring
-acknowledged_ring sector block cover server = go (still_has server.cache sector block)
+acknowledged_ring sector block cover server = go (comes_clean server sector block)
   where
     go : (b : Bool) → (if b then clean_now sector server else server).ring ≡ server.ring
     go true = refl
@@ -511,12 +510,13 @@ event_ships s End heard m k g = same_ships s.core _ refl refl refl g
 
 step_ships : (s v : State) → Step s v → Known s.core → Ships s.core → Ships v.core
 step_ships s v (Event_ event heard makes) k g = event_ships s event heard makes k g
-step_ships s v (Enter a line follows) k g = same_ships s.core v.core refl refl refl g
-step_ships s v (Hold a on server) k g = same_ships s.core v.core refl refl refl g
-step_ships s v (Flush a server) k g = steady s.core a _ (wanting_ring (s.core.servers a)) g
-step_ships s v (Relock locks are same wait) k g = same_ships s.core v.core refl refl refl g
+step_ships s v (Enter a line can) k g = same_ships s.core v.core refl refl refl g
+step_ships s v (Hold a on may) k g = same_ships s.core v.core refl refl refl g
+step_ships s v (Flush a may) k g = steady s.core a _ (wanting_ring (s.core.servers a)) g
+step_ships s v (Relock locks going are same wait) k g = same_ships s.core v.core refl refl refl g
 step_ships s v (Note line may) k g = g
-step_ships s v (Peek sector) k g = g
+step_ships s v (Peek sector going) k g = g
+step_ships s v (PeekFails sector going) k g = failed_ships s.core host_party g
 
 ships_of_run : (setting : Setting) (disk : Sectors) (s : State) → Run (first_state setting disk) s → Ships s.core
 ships_of_run setting disk =

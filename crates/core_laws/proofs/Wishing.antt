@@ -34,7 +34,6 @@ use Rattle.tree_definitions.specs.Touched.{is_ok, is_unmount}
 use Rattle.sector_bytes.specs.Blocks.{Block}
 use Rattle.sector_bytes.specs.SectorMaps.{value_at}
 use Rattle.sector_bytes.specs.Sectors.{Sectors}
-use Rattle.core_definitions.specs.Caches.{still_has}
 use Rattle.core_definitions.specs.Flights.{Flight, InPlace, OfLog, OfRecovery, Purpose}
 use Rattle.core_definitions.specs.Lines.{Stage, Asking, Fetching, Moving, Stopping, Growing, Clearing, Finishing, Under, operation_of}
 use Rattle.core_definitions.specs.Logs.{is_read}
@@ -43,7 +42,7 @@ use Rattle.core_definitions.specs.Scripts.{host_party}
 use Rattle.core_definitions.specs.Servers.{Phase, Off, Up, Still, Doomed, Dead, Server, asked_by, asks, due_if, due_under, is_answering, is_off, is_open, is_still, is_up, own_answer, own_answer_of, wanting_all, wanting_all_up}
 use Rattle.core_definitions.specs.Sets.{has_lock, held_set}
 use Rattle.core_definitions.specs.Settings.{Setting}
-use Rattle.core_definitions.specs.Writes.{Write}
+use Rattle.core_definitions.specs.Writes.{Write, comes_clean}
 use Rattle.core_definitions.specs.Cores.{Core, clean_at, due_at, expiry_of, next_of, stage, with_server, writes}
 use Rattle.core_definitions.specs.Events.{Event, Begin, Ask, Fetch, Again, Clear, Commit, Answer, Give, Issue, Doom, Resume, Arrive, Lose, Die, Renew, Tick, Recover, Load, Look, Finish, HostLine, Close, Read, Show, End, Heard, Nothing, Got, GetFailed, Written, Late, PutFailed}
 use Rattle.core_definitions.specs.LineGuards.{CanBegin, is_server}
@@ -52,7 +51,7 @@ use Rattle.core_definitions.specs.LineEffects.{again_by, answered_by, answered_o
 use Rattle.core_definitions.specs.WriteEffects.{acknowledged, arrived_as, arrived_from, clean_now, died_in, given_for, issued_as, landed, taken_in, up_again}
 use Rattle.core_definitions.specs.EndEffects.{finished_by, finished_from, host_answered_line}
 use Rattle.core_definitions.specs.Effects.{after}
-use Rattle.core_definitions.specs.Runs.{State, Step, Event_, Enter, Hold, Flush, Relock, Note, Peek, Run, first_state, Makes}
+use Rattle.core_definitions.specs.Runs.{State, Step, Event_, Enter, Hold, Flush, Relock, Note, Peek, PeekFails, Run, first_state, Makes}
 use Rattle.core_laws.proofs.Along.{along}
 use Rattle.core_laws.proofs.Keeping.{locks_of_run}
 use Rattle.core_laws.proofs.Memory.{given_due, opened}
@@ -563,7 +562,7 @@ issued_wishing c a sector (Some write) w =
 acknowledged_asks : (sector : ℕ) (block : Block) (purpose : Purpose) (server : Server) → AsksSame server (acknowledged sector block purpose server)
 acknowledged_asks sector block (OfLog number) server = ((λ t. t), λ claim. refl)
 acknowledged_asks sector block OfRecovery server = ((λ t. t), λ claim. refl)
-acknowledged_asks sector block (InPlace cover) server = go (still_has server.cache sector block)
+acknowledged_asks sector block (InPlace cover) server = go (comes_clean server sector block)
   where
     go : (b : Bool) → AsksSame server (if b then clean_now sector server else server)
     go true = ((λ t. t), λ claim. refl)
@@ -698,12 +697,13 @@ event_wishing s End heard m are offs w = w
 
 step_wishing : (s v : State) → Step s v → AreLocks s.core.locks → Offs s.core → Wishing s.core → Wishing v.core
 step_wishing s v (Event_ event heard makes) are offs w = event_wishing s event heard makes are offs w
-step_wishing s v (Enter a line follows) are offs w = w
-step_wishing s v (Hold a on server) are offs w = w
-step_wishing s v (Flush a server) are offs w = steady s.core a _ (wanting_asks (s.core.servers a)) w
-step_wishing s v (Relock locks good same wait) are offs w = λ i is_one t. relocked_wishes locks s.core.locks same wait i (s.core.servers i) (w i is_one t)
+step_wishing s v (Enter a line can) are offs w = w
+step_wishing s v (Hold a on may) are offs w = w
+step_wishing s v (Flush a may) are offs w = steady s.core a _ (wanting_asks (s.core.servers a)) w
+step_wishing s v (Relock locks going good same wait) are offs w = λ i is_one t. relocked_wishes locks s.core.locks same wait i (s.core.servers i) (w i is_one t)
 step_wishing s v (Note line may) are offs w = w
-step_wishing s v (Peek sector) are offs w = w
+step_wishing s v (Peek sector going) are offs w = w
+step_wishing s v (PeekFails sector going) are offs w = failed_wishing s.core host_party w
 
 wishing_of_run : (setting : Setting) (disk : Sectors) (s : State) → Run (first_state setting disk) s → Wishing s.core
 wishing_of_run setting disk =

@@ -1,5 +1,5 @@
 -- Laws of the core: what its list of enabled events has, and what holds over every run.
-use Rattle.std.specs.Prelude.{◌≤◌, ◌↔◌, ℕ, List, [], ◌∷◌, map}
+use Rattle.std.specs.Prelude.{◌≡◌, ◌≤◌, ◌↔◌, ℕ, IsTrue, List, [], ◌∷◌, map}
 use Rattle.std.specs.List.{Contains}
 use Rattle.std.specs.Map.{keys_of}
 use Rattle.lock_definitions.specs.Locks.{AreCompatible}
@@ -18,6 +18,10 @@ EnabledIsExact = (c : Core) (event : Event) → Contains (enabled c) event ↔ C
 -- no step turns the clock back
 abbrev pub ClockRises : Type 0
 ClockRises = (s v : State) → Run s v → s.core.now ≤ v.core.now
+
+-- once it is over nothing follows: no run from there makes a step
+abbrev pub NothingFollowsTheEnd : Type 0
+NothingFollowsTheEnd = (s v : State) → IsTrue s.core.over → Run s v → v ≡ s
 
 -- over every run no lock is held sole by one server and in any mode by another
 abbrev pub HoldersAreCompatible : Type 0

@@ -5,3 +5,5 @@ pub mod Orders
 pub mod Leases
 pub mod Wishes
 pub mod Waits
+pub mod Calls
+pub mod Openings

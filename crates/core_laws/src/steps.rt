@@ -1,7 +1,7 @@
 //! What the list of the enabled events of the core has, and what holds over every run of it, step by step. Each law is the contract of a public function with an
 //! empty body. They stand on the definitions of the core and on the laws of lock tables.
 
-ghost use Rattle.core_laws.specs.Laws.{EnabledIsExact, ClockRises, HoldersAreCompatible, TicketsStandOnce, SectorsStandOnce};
+ghost use Rattle.core_laws.specs.Laws.{EnabledIsExact, ClockRises, NothingFollowsTheEnd, HoldersAreCompatible, TicketsStandOnce, SectorsStandOnce};
 
 /// The list of enabled events has exactly those that may happen.
 pub fn enabled_lists_what_may_happen()
@@ -11,6 +11,11 @@ pub fn enabled_lists_what_may_happen()
 /// No step turns the clock back.
 pub fn the_clock_only_rises()
     ensures rises { ClockRises }
+{}
+
+/// Once it is over no step is made.
+pub fn nothing_follows_the_end()
+    ensures last { NothingFollowsTheEnd }
 {}
 
 /// Over every run from an opening no lock is held sole by one server and held in any mode by another.

@@ -1,5 +1,5 @@
 -- Over every run: step by step no more is due or said of a server than the calls of it that failed.
-use Rattle.std.proofs.Common.{ℕ, suc, ◌≡◌, ◌≤◌, ◌<◌, ◌+◌, Bool, true, false, ◌||◌, if◌then◌else◌, IsTrue, not, List, [], ◌∷◌, ◌++◌, filter, length, nat_eq, refl, sym, ap, ◌∙◌, subst, append_assoc, arith}
+use Rattle.std.proofs.Common.{ℕ, suc, ◌≡◌, ◌≤◌, ◌<◌, ◌+◌, Bool, true, false, ◌||◌, if◌then◌else◌, IsTrue, not, List, [], ◌∷◌, ◌++◌, Some, filter, length, nat_eq, refl, sym, ap, ◌∙◌, subst, append_assoc, arith}
 use Rattle.std.proofs.lemmas.Bool.{false≢true, eqb-true, and_parts}
 use Rattle.frang_base.specs.declared.said.Said.{Said}
 use Rattle.frang_base.specs.declared.said.Said.TheVariants as said
@@ -8,21 +8,22 @@ use Rattle.sector_bytes.specs.Sectors.{Sectors}
 use Rattle.tree_definitions.specs.History.{Opening}
 use Rattle.tree_definitions.specs.Transcript.{Faults, io_answers, is_io_of, is_unexplained, may_be_dirty, unexplained_deaths, unexplained_from}
 use Rattle.tree_definitions.proofs.NodeBlocks.{none_before}
+use Rattle.core_definitions.specs.Scripts.{host_party}
 use Rattle.core_definitions.specs.Servers.{is_still, wanting_all_up}
 use Rattle.core_definitions.specs.Settings.{Setting}
 use Rattle.core_definitions.specs.Cores.{clean_at}
 use Rattle.core_definitions.specs.Effects.{Says, deeds_of}
 use Rattle.core_definitions.specs.LineGuards.{is_server}
-use Rattle.core_definitions.specs.Runs.{State, Step, Event_, Enter, Hold, Flush, Relock, Note, Peek, Run, Stays, Goes, first_state, goes_on, is_note, saids_of}
+use Rattle.core_definitions.specs.Runs.{State, Step, Event_, Enter, Hold, Flush, Relock, Note, Peek, PeekFails, Run, Stays, Goes, first_state, goes_on, is_note, saids_of}
+use Rattle.core_definitions.specs.Faults.{failed_calls, fails_at, is_of}
 use Rattle.core_laws.specs.Facts.{OffHasNoFlights}
 use Rattle.core_laws.proofs.Along.{longer}
-use Rattle.core_transcripts.specs.Faults.{fails_at, has_failed, is_of, run_faults}
+use Rattle.core_transcripts.specs.Faults.{has_failed, run_faults}
 use Rattle.core_transcripts.specs.Transcripts.{IsNumbered}
 use Rattle.core_transcripts.proofs.Fits.{key_of}
 use Rattle.core_transcripts.proofs.Rising.{run_has_its_faults}
 use Rattle.core_transcripts.proofs.Running.{Holds, holds_of_run, still_is_dirty, said_more}
 use Rattle.core_transcripts.proofs.Steady.{wanting_steady}
-use Rattle.core_transcripts.specs.Within.{failed_calls}
 use Rattle.core_transcripts.proofs.Called.{CallFits, IsAside, called}
 use Rattle.core_transcripts.proofs.Due.{Pays, aside_pays, death_due, io_due, nil_right, one_if, same_pays}
 use Rattle.core_transcripts.proofs.Paying.{event_pays}
@@ -103,10 +104,14 @@ module _ (opening : Opening) (setting : Setting) (disk : Sectors) (numbered : Is
     lease : (a : ℕ) → IsTrue (is_server a) → IsTrue (is_still (s.core.servers a).phase) → IsTrue (not (clean_at s.core a)) → IsTrue (may_be_dirty setting.script a (saids_of s.record_))
     lease = still_is_dirty opening setting disk numbered own_faults (run_has_its_faults (first_state setting disk) s before).1.stay ashore s before holds
 
+    -- whatever calls fail
+    failed_silently : (v : State) (i fails : ℕ) → saids_of v.record_ ≡ saids_of s.record_ → key_of (v.core.servers i) ≡ key_of (s.core.servers i) → Climbs setting.script i s v fails
+    failed_silently v i fails e k =
+        climbs setting.script i s v [] fails (e ∙ sym (nil_right (saids_of s.record_)))
+        (same_pays setting.script (saids_of s.record_) i (key_of (s.core.servers i)) (h i) (key_of (v.core.servers i)) fails k)
+
     nothing_said : (v : State) (i : ℕ) → saids_of v.record_ ≡ saids_of s.record_ → key_of (v.core.servers i) ≡ key_of (s.core.servers i) → Climbs setting.script i s v 0
-    nothing_said v i e k =
-        climbs setting.script i s v [] 0 (e ∙ sym (nil_right (saids_of s.record_)))
-        (same_pays setting.script (saids_of s.record_) i (key_of (s.core.servers i)) (h i) (key_of (v.core.servers i)) 0 k)
+    nothing_said v i e k = failed_silently v i 0 e k
 
     flushed_key : (a i : ℕ) (b : Bool) → nat_eq i a ≡ b → key_of (if b then wanting_all_up (s.core.servers a) else s.core.servers i) ≡ key_of (s.core.servers i)
     flushed_key a i true e = wanting_steady (s.core.servers a) ∙ ap (λ j. key_of (s.core.servers j)) (sym (eqb-true i a e))
@@ -121,15 +126,16 @@ module _ (opening : Opening) (setting : Setting) (disk : Sectors) (numbered : Is
     step_climbs v (Event_ event heard makes) i =
         climbs setting.script i s v (saids_of (deeds_of s.core event heard)) (one_if (is_of i (fails_at s v (Event_ event heard makes)))) (said_more s.record_ (deeds_of s.core event heard))
         (event_pays setting.script own_faults s.core (saids_of s.record_) holds.fits lease h event heard s.disk makes.can.can makes.hears i)
-    step_climbs v (Enter a line n) i = nothing_said v i refl refl
-    step_climbs v (Hold a on server) i = nothing_said v i refl refl
-    step_climbs v (Flush a server) i = nothing_said v i refl (flushed_key a i (nat_eq i a) refl)
-    step_climbs v (Relock locks are same wait) i = nothing_said v i refl refl
+    step_climbs v (Enter a line can) i = nothing_said v i refl refl
+    step_climbs v (Hold a on may) i = nothing_said v i refl refl
+    step_climbs v (Flush a may) i = nothing_said v i refl (flushed_key a i (nat_eq i a) refl)
+    step_climbs v (Relock locks going are same wait) i = nothing_said v i refl refl
     step_climbs v (Note line may) i =
         climbs setting.script i s v (line ∷ []) 0 (said_more s.record_ (Says line ∷ []))
         (aside_pays setting.script (saids_of s.record_) i (key_of (s.core.servers i)) (h i) line (key_of (s.core.servers i)) (key_of (s.core.servers i)).saves 0 refl
         (note_aside i line (and_parts (is_note line) (goes_on s.core) may).0))
-    step_climbs v (Peek sector) i = nothing_said v i refl refl
+    step_climbs v (Peek sector going) i = nothing_said v i refl refl
+    step_climbs v (PeekFails sector going) i = failed_silently v i (if is_of i (Some host_party) then 1 else 0) refl refl
 
   -- ---- runs
 

@@ -11,10 +11,11 @@ use Rattle.tree_definitions.specs.Transcript.{is_over}
 use Rattle.core_definitions.specs.Scripts.{host_party}
 use Rattle.core_definitions.specs.Settings.{Setting}
 use Rattle.core_definitions.specs.Effects.{after, deeds_of}
-use Rattle.core_definitions.specs.Runs.{State, Step, Event_, Enter, Hold, Flush, Relock, Note, Peek, Run, Stays, Goes, first_state, goes_on, is_note, said_by, saids_of}
+use Rattle.core_definitions.specs.Runs.{State, Step, Event_, Enter, Hold, Flush, Relock, Note, Peek, PeekFails, Run, Stays, Goes, first_state, goes_on, is_note, said_by, saids_of}
+use Rattle.core_definitions.specs.Faults.{failing, fails_at, is_of}
 use Rattle.core_laws.specs.Facts.{OffHasNoFlights}
 use Rattle.core_laws.proofs.Along.{longer}
-use Rattle.core_transcripts.specs.Faults.{failing, fails_at, has_failed, is_of, run_faults}
+use Rattle.core_transcripts.specs.Faults.{has_failed, run_faults}
 use Rattle.core_transcripts.specs.Transcripts.{IsNumbered}
 use Rattle.core_transcripts.proofs.Rising.{run_has_its_faults}
 use Rattle.core_transcripts.proofs.Running.{Holds, holds_of_run}
@@ -41,6 +42,11 @@ no_more over true x t = t
 no_more over false true t = t
 no_more over false false t = t
 
+ends_it : (spoken x : Bool) → true ≡ (spoken || (x || true))
+ends_it true x = refl
+ends_it false true = refl
+ends_it false false = refl
+
 module _ (opening : Opening) (setting : Setting) (disk : Sectors) (numbered : IsNumbered setting.script) (ashore : OffHasNoFlights) where
   module _ (s : State) (run : Run (first_state setting disk) s) where
     holds : Holds opening setting disk numbered (run_faults (first_state setting disk) s run) (run_has_its_faults (first_state setting disk) s run).1.stay ashore (saids_of s.record_) s.core
@@ -65,17 +71,18 @@ module _ (opening : Opening) (setting : Setting) (disk : Sectors) (numbered : Is
     where
       going : s.core.over ≡ false
       going = not-true s.core.over makes.can.going
-  step_told s v before (Enter a line n) x t = no_more s.core.over (is_over setting.script (saids_of s.record_)) x t
-  step_told s v before (Hold a on server) x t = no_more s.core.over (is_over setting.script (saids_of s.record_)) x t
-  step_told s v before (Flush a server) x t = no_more s.core.over (is_over setting.script (saids_of s.record_)) x t
-  step_told s v before (Relock locks are same wait) x t = no_more s.core.over (is_over setting.script (saids_of s.record_)) x t
+  step_told s v before (Enter a line can) x t = no_more s.core.over (is_over setting.script (saids_of s.record_)) x t
+  step_told s v before (Hold a on may) x t = no_more s.core.over (is_over setting.script (saids_of s.record_)) x t
+  step_told s v before (Flush a may) x t = no_more s.core.over (is_over setting.script (saids_of s.record_)) x t
+  step_told s v before (Relock locks going are same wait) x t = no_more s.core.over (is_over setting.script (saids_of s.record_)) x t
   step_told s v before (Note line may) x t =
       told_by s.core.over (is_over setting.script (saids_of v.record_)) x false (none_yet s.core.over (is_over setting.script (saids_of s.record_)) x going t)
       (goes_on_saying v (longer (first_state setting disk) s v before (Note line may))) (λ e. absurd (false≢true e)) (λ e. absurd (false≢true (sym going ∙ e)))
     where
       going : s.core.over ≡ false
       going = not-true s.core.over (and_parts (not s.core.over) (s.core.shown == 0) (and_parts (is_note line) (goes_on s.core) may).1).0
-  step_told s v before (Peek sector) x t = no_more s.core.over (is_over setting.script (saids_of s.record_)) x t
+  step_told s v before (Peek sector going) x t = no_more s.core.over (is_over setting.script (saids_of s.record_)) x t
+  step_told s v before (PeekFails sector going) x t = ends_it (is_over setting.script (saids_of s.record_)) x
 
   run_told : (s v : State) → Run (first_state setting disk) s → (run : Run s v) (x : Bool) → Told s x → Told v (x || has_failed s v run host_party)
   run_told s v before Stays x t = no_more s.core.over (is_over setting.script (saids_of s.record_)) x t
@@ -90,12 +97,13 @@ module _ (opening : Opening) (setting : Setting) (disk : Sectors) (numbered : Is
 
 clock_step : (s v : State) → Step s v → s.core.now ≤ LAST_TICK → v.core.now ≤ LAST_TICK
 clock_step s v (Event_ event heard makes) h = clock_stands s.core event heard makes.can.can h
-clock_step s v (Enter a line n) h = h
-clock_step s v (Hold a on server) h = h
-clock_step s v (Flush a server) h = h
-clock_step s v (Relock locks are same wait) h = h
+clock_step s v (Enter a line can) h = h
+clock_step s v (Hold a on may) h = h
+clock_step s v (Flush a may) h = h
+clock_step s v (Relock locks going are same wait) h = h
 clock_step s v (Note line may) h = h
-clock_step s v (Peek sector) h = h
+clock_step s v (Peek sector going) h = h
+clock_step s v (PeekFails sector going) h = h
 
 clock_run : (s v : State) → Run s v → s.core.now ≤ LAST_TICK → v.core.now ≤ LAST_TICK
 clock_run s v Stays h = h

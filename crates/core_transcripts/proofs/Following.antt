@@ -17,7 +17,7 @@ use Rattle.core_definitions.specs.Cores.{next_of}
 use Rattle.core_definitions.specs.Settings.{Setting}
 use Rattle.core_definitions.specs.LineGuards.{is_server}
 use Rattle.core_definitions.specs.Effects.{Says, deeds_of}
-use Rattle.core_definitions.specs.Runs.{State, Step, Event_, Enter, Hold, Flush, Relock, Note, Peek, Run, first_state, goes_on, is_note, saids_of}
+use Rattle.core_definitions.specs.Runs.{State, Step, Event_, Enter, Hold, Flush, Relock, Note, Peek, PeekFails, Run, first_state, goes_on, is_note, saids_of}
 use Rattle.core_laws.specs.Laws.{AreOnce}
 use Rattle.core_laws.proofs.Flying.{Once, as_words, once_of}
 use Rattle.core_laws.proofs.Membership.{contains_in, in_contains}
@@ -48,14 +48,15 @@ module _ (script : List Line) (own : Once (numbers_of script)) where
   step_told : (s v : State) → Step s v → Told script s.core (answers_in s.record_) → Told script v.core (answers_in v.record_)
   step_told s v (Event_ event heard makes) t =
       subst (Told script v.core) (sym (filter_map-append answer_of s.record_ (deeds_of s.core event heard))) (event_told script own s event heard (answers_in s.record_) makes t)
-  step_told s v (Enter a line next) t = same script own s.core v.core (answers_in s.record_) refl refl refl t
-  step_told s v (Hold a on server) t = same script own s.core v.core (answers_in s.record_) refl refl refl t
-  step_told s v (Flush a server) t = quiet script s.core v.core (answers_in s.record_) refl refl (put_keeps s.core.servers a _ (wanting_keeps (s.core.servers a))) t
-  step_told s v (Relock locks good alike wait) t = same script own s.core v.core (answers_in s.record_) refl refl refl t
+  step_told s v (Enter a line can) t = same script own s.core v.core (answers_in s.record_) refl refl refl t
+  step_told s v (Hold a on may) t = same script own s.core v.core (answers_in s.record_) refl refl refl t
+  step_told s v (Flush a may) t = quiet script s.core v.core (answers_in s.record_) refl refl (put_keeps s.core.servers a _ (wanting_keeps (s.core.servers a))) t
+  step_told s v (Relock locks going good alike wait) t = same script own s.core v.core (answers_in s.record_) refl refl refl t
   step_told s v (Note line may) t =
       subst (Told script v.core) (sym (filter_map-append answer_of s.record_ (Says line ∷ [])))
       (silent script s.core (answers_in s.record_) (answers_in (Says line ∷ [])) (ap (λ o. cons_option o []) (note_mute line (and_parts (is_note line) (goes_on s.core) may).0)) t)
-  step_told s v (Peek sector) t = t
+  step_told s v (Peek sector going) t = t
+  step_told s v (PeekFails sector going) t = same script own s.core v.core (answers_in s.record_) refl refl refl t
 
 first_told : (setting : Setting) (disk : Sectors) → Told setting.script (first_state setting disk).core []
 first_told setting disk = record {

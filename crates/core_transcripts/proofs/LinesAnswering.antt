@@ -23,14 +23,13 @@ use Rattle.sector_bytes.specs.Sectors.{sectors_of}
 use Rattle.tree_definitions.specs.Apply.{is_path_op}
 use Rattle.tree_definitions.specs.TreeLines.{name_below, path_text}
 use Rattle.core_definitions.specs.Settings.{LogRules}
-use Rattle.core_definitions.specs.Caches.{still_has}
 use Rattle.core_definitions.specs.Flights.{Flight, InPlace, OfLog, OfRecovery, Purpose}
 use Rattle.core_definitions.specs.Lines.{Stage, Asking, Fetching, Moving, Stopping, Growing, Clearing, Finishing, Under, operation_of}
 use Rattle.core_definitions.specs.Recoveries.{Recovery}
 use Rattle.core_definitions.specs.Scripts.{earlier_answered, host_party, hosts_answered, next_line}
 use Rattle.core_definitions.specs.Servers.{Phase, Off, Up, Still, Doomed, Dead, Server, asks, is_off, is_up, stage_under, wanting_all, wanting_all_up}
 use Rattle.core_definitions.specs.Trees.{entries_from, lines_at, lines_from, sorted_entries}
-use Rattle.core_definitions.specs.Writes.{Write}
+use Rattle.core_definitions.specs.Writes.{Write, comes_clean}
 use Rattle.core_definitions.specs.Cores.{Core, clean_at, due_at, next_of, stage, tree_lines, writes}
 use Rattle.core_definitions.specs.Events.{Event, Begin, Ask, Fetch, Again, Clear, Commit, Answer, Give, Issue, Doom, Resume, Arrive, Lose, Die, Renew, Tick, Recover, Load, Look, Finish, HostLine, Close, Read, Show, End, Heard, Nothing, Got, GetFailed, Written, Late, PutFailed}
 use Rattle.core_definitions.specs.LineGuards.{CanBegin, is_line, is_server}
@@ -98,7 +97,7 @@ again_keeps logs (Some (Finishing outcome)) server = inl refl
 acknowledged_keeps : (sector : ℕ) (block : Block) (purpose : Purpose) (server : Server) → Keeps server (acknowledged sector block purpose server)
 acknowledged_keeps sector block (OfLog number) server = inl refl
 acknowledged_keeps sector block OfRecovery server = inl refl
-acknowledged_keeps sector block (InPlace cover) server = go (still_has server.cache sector block)
+acknowledged_keeps sector block (InPlace cover) server = go (comes_clean server sector block)
   where
     go : (b : Bool) → Keeps server (if b then clean_now sector server else server)
     go true = inl refl

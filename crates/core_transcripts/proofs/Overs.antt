@@ -36,8 +36,8 @@ use Rattle.core_definitions.specs.WriteEffects.{arrived_from, died_in, given_for
 use Rattle.core_definitions.specs.EndEffects.{closed, finished_from, host_answered_line}
 use Rattle.core_definitions.specs.Effects.{MayHear, after, deeds_of, id_of}
 use Rattle.core_definitions.specs.Runs.{saids_of}
+use Rattle.core_definitions.specs.Faults.{failing, is_of}
 use Rattle.core_laws.proofs.Resting.{server_no_host}
-use Rattle.core_transcripts.specs.Faults.{failing, is_of}
 use Rattle.core_transcripts.specs.Transcripts.{IsNumbered}
 use Rattle.core_transcripts.proofs.Numbering.{OfNext, line_is, of_next}
 use Rattle.core_transcripts.proofs.Saying.{any_push}

@@ -42,7 +42,7 @@ use Rattle.core_definitions.specs.WriteEffects.{acknowledged, arrived_from, coun
 use Rattle.core_definitions.specs.EndEffects.{closed, finished_from, host_answered_line, look_made, recovered, slot_loaded}
 use Rattle.core_definitions.specs.Effects.{MayHear, after, deeds_of, deeds_of_arrival, id_of, reply_by, says_answer, says_node, says_recovered}
 use Rattle.core_definitions.specs.Runs.{saids_of}
-use Rattle.core_transcripts.specs.Faults.{failing, is_of}
+use Rattle.core_definitions.specs.Faults.{failing, is_of}
 use Rattle.core_transcripts.proofs.Answering.{is_under}
 use Rattle.core_transcripts.proofs.Fits.{AskFits, asked_of, key_of}
 use Rattle.core_transcripts.proofs.Fitting.{told_of}

@@ -4,7 +4,8 @@ use Rattle.std.proofs.lemmas.Bool.{false≢true, eq-eqb, or_right}
 use Rattle.std.proofs.lemmas.Bool.Decides.{nat_tests}
 use Rattle.tree_definitions.specs.Transcript.{Faults}
 use Rattle.core_definitions.specs.Runs.{State, Run, Stays, Goes}
-use Rattle.core_transcripts.specs.Faults.{CountsAt, CountsEach, RunHasItsFaults, fails_at, has_failed, is_of, place_of, run_faults}
+use Rattle.core_definitions.specs.Faults.{fails_at, is_of}
+use Rattle.core_transcripts.specs.Faults.{CountsAt, CountsEach, RunHasItsFaults, has_failed, place_of, run_faults}
 
 le_more : (n early late : ℕ) → early ≤ late → nat_le n early ≡ true → nat_le n late ≡ true
 le_more n early late h e = grind (arith, nat_tests, h, e)

@@ -18,17 +18,18 @@ use Rattle.core_definitions.specs.Cores.{Core, clean_at, first_core}
 use Rattle.core_definitions.specs.Events.{Event, Heard}
 use Rattle.core_definitions.specs.LineGuards.{is_server}
 use Rattle.core_definitions.specs.Effects.{Deed, Says, after, deeds_of}
-use Rattle.core_definitions.specs.Runs.{State, Step, Event_, Enter, Hold, Flush, Relock, Note, Peek, Run, Stays, Goes, Makes, first_state, goes_on, is_note, said_by, saids_of}
+use Rattle.core_definitions.specs.Runs.{State, Step, Event_, Enter, Hold, Flush, Relock, Note, Peek, PeekFails, Run, Stays, Goes, Makes, first_state, goes_on, is_note, said_by, saids_of}
+use Rattle.core_definitions.specs.Faults.{failing, fails_at}
 use Rattle.core_laws.proofs.Kept.{setting_kept}
 use Rattle.core_laws.specs.Facts.{OffHasNoFlights}
 use Rattle.core_laws.proofs.Resting.{good_of_run}
 use Rattle.core_laws.proofs.Along.{longer}
-use Rattle.core_transcripts.specs.Faults.{CountsAt, CountsEach, failing, fails_at, place_of}
+use Rattle.core_transcripts.specs.Faults.{CountsAt, CountsEach, place_of}
 use Rattle.core_transcripts.specs.Transcripts.{EachMay, IsNumbered, MaySayButTree}
 use Rattle.core_transcripts.proofs.Blank.{IsBlank, Keeps, blank_is_clean, is_changing}
 use Rattle.core_transcripts.proofs.Blanking.{wanting_kept}
 use Rattle.core_transcripts.proofs.Fits.{key_of, rises}
-use Rattle.core_transcripts.proofs.Fitting.{same_key, told_of}
+use Rattle.core_transcripts.proofs.Fitting.{ended_so, same_key, told_of}
 use Rattle.core_transcripts.proofs.Happening.{CoreFits, Turn, Quiet, Speaks}
 use Rattle.core_transcripts.proofs.Lives.{still_idle}
 use Rattle.core_transcripts.proofs.Numbering.{none_marked}
@@ -196,12 +197,19 @@ module _ (opening : Opening) (setting : Setting) (disk : Sectors) (numbered : Is
 
     step_holds : (v : State) (step : Step s v) → CountsAt f (place_of s) (fails_at s v step) → Holds (saids_of v.record_) v.core
     step_holds v (Event_ event heard makes) counts = event_holds event heard makes counts
-    step_holds v (Enter a line n) counts = record { same = h.same; said_so = h.said_so; fits = h.fits; spotless = h.spotless }
-    step_holds v (Hold a on server) counts = record { same = h.same; said_so = h.said_so; fits = h.fits; spotless = h.spotless }
-    step_holds v (Flush a server) counts = flush_holds a
-    step_holds v (Relock locks are same wait) counts = record { same = h.same; said_so = h.said_so; fits = h.fits; spotless = h.spotless }
+    step_holds v (Enter a line can) counts = record { same = h.same; said_so = h.said_so; fits = h.fits; spotless = h.spotless }
+    step_holds v (Hold a on may) counts = record { same = h.same; said_so = h.said_so; fits = h.fits; spotless = h.spotless }
+    step_holds v (Flush a may) counts = flush_holds a
+    step_holds v (Relock locks going are same wait) counts = record { same = h.same; said_so = h.said_so; fits = h.fits; spotless = h.spotless }
     step_holds v (Note line may) counts = note_holds line may
-    step_holds v (Peek sector) counts = h
+    step_holds v (Peek sector going) counts = h
+    step_holds v (PeekFails sector going) counts =
+        record {
+          same = h.same;
+          said_so = h.said_so;
+          fits = ended_so setting.script f saids (λ i. key_of (s.core.servers i)) s.core.answered s.core.over s.core.shown h.fits;
+          spotless = h.spotless;
+        }
 
   -- ---- runs
   run_holds : (s v : State) → Run (first_state setting disk) s → (run : Run s v) → CountsEach f s v run → Holds (saids_of s.record_) s.core → Holds (saids_of v.record_) v.core

@@ -22,7 +22,7 @@ use Rattle.tree_definitions.specs.Live.{line_of}
 use Rattle.tree_definitions.specs.Touched.{is_mounted, is_ok, is_unmount}
 use Rattle.tree_definitions.specs.Transcript.{Faults, dirty_after, dirty_from, is_already, is_change_line, is_halt, is_mount, is_node}
 use Rattle.core_definitions.specs.Settings.{lease_to}
-use Rattle.core_definitions.specs.Caches.{dropped, still_has}
+use Rattle.core_definitions.specs.Caches.{dropped}
 use Rattle.core_definitions.specs.Flights.{Flight, Flights, InPlace, OfLog, OfRecovery, Purpose, each_of_server, has_flights, left_behind, lost}
 use Rattle.core_definitions.specs.Lines.{Stage, Asking, Fetching, Moving, Stopping, Growing, Clearing, Finishing, Under, operation_of}
 use Rattle.core_definitions.specs.Logs.{end_of, is_read}
@@ -30,7 +30,7 @@ use Rattle.core_definitions.specs.Plans.{Outcome}
 use Rattle.core_definitions.specs.Recoveries.{Recovery, recovery_of}
 use Rattle.core_definitions.specs.Scripts.{host_party}
 use Rattle.core_definitions.specs.Servers.{Phase, Off, Up, Still, Doomed, Dead, Server, answer_of, due_if, due_under, is_answering, is_off, is_still, is_synced, is_up, mount_answer, own_answer, own_answer_of, wanting_all, wanting_all_up}
-use Rattle.core_definitions.specs.Writes.{Write}
+use Rattle.core_definitions.specs.Writes.{Write, comes_clean}
 use Rattle.core_definitions.specs.Cores.{Core, clean_at, due_at, next_of, stage, tree_lines, writes}
 use Rattle.core_definitions.specs.Events.{Event, Begin, Ask, Fetch, Again, Clear, Commit, Answer, Give, Issue, Doom, Resume, Arrive, Lose, Die, Renew, Tick, Recover, Load, Look, Finish, HostLine, Close, Read, Show, End, Heard, Nothing, Got, GetFailed, Written, Late, PutFailed}
 use Rattle.core_definitions.specs.LineGuards.{CanAnswer, CanCommit, done_by, is_server}
@@ -313,7 +313,7 @@ module _ (f : Faults) (c : Core) (saids : List Said) (numbered : IsNumbered c.se
 
       back : (purpose : Purpose) → IsSpotless (dirty flight.server) (acknowledged flight.sector flight.block purpose (c.servers flight.server)) → IsSpotless (dirty flight.server) (c.servers flight.server)
       back (OfLog number) s = record { mounted = s.mounted; clean_ = s.clean_ }
-      back (InPlace cover) s = by_block (still_has (c.servers flight.server).cache flight.sector flight.block) s
+      back (InPlace cover) s = by_block (comes_clean (c.servers flight.server) flight.sector flight.block) s
         where
           by_block : (b : Bool) → IsSpotless (dirty flight.server) (if b then clean_now flight.sector (c.servers flight.server) else c.servers flight.server) → IsSpotless (dirty flight.server) (c.servers flight.server)
           by_block true s = record { mounted = s.mounted; clean_ = s.clean_ }

@@ -4,8 +4,8 @@ use Rattle.std.specs.Option.{option_map}
 use Rattle.frang_base.specs.declared.lock.LockId.{LockId}
 use Rattle.ring_definitions.specs.Rings.{Ring}
 use Rattle.sector_bytes.specs.Blocks.{Block}
+use Rattle.core_definitions.specs.Writes.{comes_clean}
 use Rattle.core_definitions.specs.Settings.{LogRules}
-use Rattle.core_definitions.specs.Caches.{still_has}
 use Rattle.core_definitions.specs.Lines.{Stage, Asking, Fetching, Moving, Stopping, Growing, Clearing, Finishing, Under}
 use Rattle.core_definitions.specs.Flights.{InPlace, OfLog, OfRecovery, Purpose}
 use Rattle.core_definitions.specs.Recoveries.{Recovery}
@@ -62,7 +62,7 @@ issued_steady server ring = ap (λ x. record (key_of server) { armed = x }) (arm
 
 pub acknowledged_steady : (sector : ℕ) (block : Block) (purpose : Purpose) (server : Server) → key_of (acknowledged sector block purpose server) ≡ key_of server
 acknowledged_steady sector block (OfLog number) server = refl
-acknowledged_steady sector block (InPlace cover) server = go (still_has server.cache sector block)
+acknowledged_steady sector block (InPlace cover) server = go (comes_clean server sector block)
   where
     go : (b : Bool) → key_of (if b then clean_now sector server else server) ≡ key_of server
     go true = refl

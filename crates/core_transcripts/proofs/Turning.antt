@@ -34,9 +34,10 @@ use Rattle.core_definitions.specs.WriteEffects.{acknowledged, arrived_from, coun
 use Rattle.core_definitions.specs.EndEffects.{closed, look_made, slot_loaded}
 use Rattle.core_definitions.specs.Effects.{MayHear, MayLoad, after, deeds_of, deeds_of_arrival}
 use Rattle.core_definitions.specs.Runs.{saids_of}
+use Rattle.core_definitions.specs.Faults.{failing}
 use Rattle.core_laws.proofs.Memory.{Good}
 use Rattle.core_laws.proofs.Resting.{server_no_host}
-use Rattle.core_transcripts.specs.Faults.{CountsAt, failing}
+use Rattle.core_transcripts.specs.Faults.{CountsAt}
 use Rattle.core_transcripts.specs.Transcripts.{IsNumbered, MaySayButTree}
 use Rattle.core_transcripts.proofs.Answering.{due_turn}
 use Rattle.core_transcripts.proofs.Closing.{end_turn, show_turn}

@@ -46,7 +46,7 @@ can_answer s a going can = record { going = going; can = can }
 
 twice : Run (first_state two_lines zeros) answered_both
 twice =
-    Goes (Enter 0 (line_at 0) refl)
+    Goes (Enter 0 (line_at 0) (record { going = refl; server = refl; next = refl; waits = refl }))
     (Goes (Event_ (Begin 0) Nothing (record { can = can_begin at_gate 0 refl (record { server = refl; next = refl; idle = refl; hosts = refl; phase = refl; passed = refl; free = refl }); hears = refl }))
     (Goes (Event_ (Begin 1) Nothing (record { can = can_begin begun_once 1 refl (record { server = refl; next = refl; idle = refl; hosts = refl; phase = refl; passed = refl; free = refl }); hears = refl }))
     (Goes (Event_ (Answer 0) Nothing (record { can = can_answer begun_twice 0 refl (record { server = refl; due = refl }); hears = refl }))

@@ -1,35 +1,12 @@
--- Which calls fail in a run, and the counts that they rise: of a server, or of the host, at a place of the lines said.
-use Rattle.std.specs.Prelude.{◌≡◌, ◌≤◌, ℕ, ◌==◌, Bool, true, false, ◌&&◌, ◌||◌, Option, Some, None, length, nat_le}
-use Rattle.std.specs.Option.{option_map}
-use Rattle.sector_bytes.specs.SectorMaps.{value_at}
+-- The counts that the failed calls of a run rise: of a server, or of the host, at a place of the lines said.
+use Rattle.std.specs.Prelude.{◌≡◌, ◌≤◌, ℕ, Bool, true, false, ◌&&◌, ◌||◌, Option, Some, None, length, nat_le}
 use Rattle.tree_definitions.specs.Transcript.{Faults, AreFaultsOf}
-use Rattle.core_definitions.specs.Scripts.{host_party}
-use Rattle.core_definitions.specs.Cores.{Core}
-use Rattle.core_definitions.specs.Events.{Event, Fetch, Arrive, Load, Look, Read, Heard, GetFailed, PutFailed}
-use Rattle.core_definitions.specs.Runs.{State, Step, Event_, Run, Stays, Goes, saids_of}
-
--- whose get or put fails at an event, by what is heard
-abbrev pub failing : Core → Event → Heard → Option ℕ
-failing c (Fetch a sector) GetFailed = Some a
-failing c (Load by slot) GetFailed = Some by
-failing c (Look by sector) GetFailed = Some by
-failing c (Read sector) GetFailed = Some host_party
-failing c (Arrive ticket) (PutFailed new) = option_map (λ flight. flight.server) (value_at c.flights ticket)
-failing c event heard = None
-
--- whose call fails at a step
-abbrev pub fails_at : (s v : State) → Step s v → Option ℕ
-fails_at s v (Event_ event heard makes) = failing s.core event heard
-fails_at s v step = None
+use Rattle.core_definitions.specs.Runs.{State, Run, Stays, Goes, saids_of}
+use Rattle.core_definitions.specs.Faults.{fails_at, is_of}
 
 -- the place of a moment: how many lines are said
 abbrev pub place_of : State → ℕ
 place_of s = length (saids_of s.record_)
-
--- the call of this server
-abbrev pub is_of : ℕ → Option ℕ → Bool
-is_of server None = false
-is_of server (Some party) = party == server
 
 -- a call of the server failed in the run by a place
 abbrev pub run_faults : (s v : State) → Run s v → Faults

@@ -7,10 +7,11 @@ use Rattle.tree_definitions.specs.History.{Opening}
 use Rattle.tree_definitions.specs.Transcript.{Faults}
 use Rattle.core_definitions.specs.Settings.{Setting}
 use Rattle.core_definitions.specs.Runs.{State, Run, first_state, saids_of}
+use Rattle.core_definitions.specs.Faults.{failed_calls}
 use Rattle.core_transcripts.specs.Answers.{HaveOwnNumbers}
 use Rattle.core_transcripts.specs.Faults.{TellFaults, run_faults}
 use Rattle.core_transcripts.specs.Transcripts.{IsNumbered, IsTranscriptButTree, are_apart}
-use Rattle.core_transcripts.specs.Within.{IsFaultyTranscript, failed_calls}
+use Rattle.core_transcripts.specs.Within.{IsFaultyTranscript}
 
 -- every script that was read meets what is asked of the scripts of runs
 abbrev pub ReadScriptsAreNumbered : Type 0

@@ -1,19 +1,15 @@
--- How many calls of each server fail in a run, and that the lines said are within them.
-use Rattle.std.specs.Prelude.{ℕ, ◌+◌, ◌<◌, ◌≤◌, if◌then◌else◌, List}
+-- That the lines said in a run are within the calls of each server that fail in it.
+use Rattle.std.specs.Prelude.{ℕ, ◌<◌, ◌≤◌, List}
 use Rattle.frang_base.specs.declared.said.Said.{Said}
 use Rattle.frang_base.specs.declared.script.Line.{Line}
 use Rattle.sector_bytes.specs.Sectors.{Sectors}
 use Rattle.tree_definitions.specs.History.{Opening}
 use Rattle.tree_definitions.specs.Transcript.{AreFaultsOf, AreWithinFaults, Faults}
 use Rattle.core_definitions.specs.Settings.{Setting}
-use Rattle.core_definitions.specs.Runs.{State, Run, Stays, Goes, first_state, saids_of}
-use Rattle.core_transcripts.specs.Faults.{fails_at, is_of, run_faults}
+use Rattle.core_definitions.specs.Runs.{State, Run, first_state, saids_of}
+use Rattle.core_definitions.specs.Faults.{failed_calls}
+use Rattle.core_transcripts.specs.Faults.{run_faults}
 use Rattle.core_transcripts.specs.Transcripts.{IsNumbered, IsTranscriptButTree}
-
--- how many gets and puts of the server, or of the host, fail in the run
-abbrev pub failed_calls : (s v : State) → Run s v → ℕ → ℕ
-failed_calls s v Stays server = 0
-failed_calls s w (Goes {v = v} step run) server = (if is_of server (fails_at s v step) then 1 else 0) + failed_calls v w run server
 
 -- lines said with faults: only counts that rose tell of one, the lines are a transcript but for which lines of the tree they are, and within what the counts rose
 pub record IsFaultyTranscript (script : List Line) (opening : Opening) (rise : ℕ → ℕ) (faults : Faults) (saids : List Said) : Type 0 where

@@ -7,6 +7,7 @@ pub mod Bitmaps
 pub mod LogSectors
 pub mod Store
 pub mod Naming
+pub mod FreshDisk
 pub mod Standing
 pub mod Records
 pub mod Frames

@@ -107,7 +107,7 @@ module _ (entries : Entries) (sorted : IsStrictlySortedBy lock_cmp (keys_of entr
   wished_are : (server : ℕ) (lock : LockId) (mode : Mode) → is_wished_by_other (locks_of entries logs) server lock mode ≡ is_wished_beside server mode (claimed_at entries lock)
   wished_are server lock mode = any_server-same _ _ (λ other below. ap (λ claim. not (other == server) && is_wished_in claim mode) (claim_of_is other below lock))
 
-  asked_for_is : (t : ℕ) → t < 16 → (lock : LockId) → asked_for (locks_of entries logs) t lock ≡ asked_by t (claimed_at entries lock)
+  pub asked_for_is : (t : ℕ) → t < 16 → (lock : LockId) → asked_for (locks_of entries logs) t lock ≡ asked_by t (claimed_at entries lock)
   asked_for_is t below lock = λ i. asked_of (claim_of_is t below lock i).held (wished_are t lock Shared i) (wished_are t lock Sole i)
 
   -- what is asked for of these claims

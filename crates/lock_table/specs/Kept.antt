@@ -1,5 +1,5 @@
 -- How a lock table keeps its locks: the claims of all servers on each, and for each server the locks that it is asked for.
-use Rattle.std.specs.Prelude.{◌≡◌, ℕ, ◌<◌, ◌≤◌, ◌+◌, Bool, true, false, not, ◌||◌, if◌then◌else◌, is_some, Option, Some, None, unwrap_or, List, [], ◌++◌, length, take, drop, map, filter, slice_index, slice_index_or, slice_set}
+use Rattle.std.specs.Prelude.{◌≡◌, ℕ, ◌<◌, ◌≤◌, ◌+◌, Bool, false, not, ◌||◌, if◌then◌else◌, is_some, Option, Some, None, unwrap_or, List, [], ◌++◌, length, take, drop, map, filter, slice_index, slice_index_or, slice_set}
 use Rattle.std.specs.List.{filter_map}
 use Rattle.std.specs.List.Sorted.{IsStrictlySortedBy}
 use Rattle.std.specs.Map.{lookup, remove_entry, keys_of}

@@ -66,6 +66,13 @@ impl AskedList {
         self.asked.first().copied()
     }
 
+    /// The lock at a place, counted from 0, with what is asked.
+    pub(crate) fn at(&self, place: usize) -> Option<(LockId, AskedFor)>
+        ensures { result ≡ slice_get self.now.asked place }
+    {
+        self.asked.at(place).copied()
+    }
+
     /// Makes room for one more. Nothing else changes, whatever the answer. It takes no memory where there is room.
     pub(crate) fn reserve(&mut self) -> Result<(), NoMemory>
         ensures asked { self.new.asked ≡ self.old.asked }
@@ -160,8 +167,8 @@ impl AskedList {
     }
 }
 
-// What a server is asked for of a lock.
-fn asked_in(claims: &LockMap, lock: LockId, server: ServerId) -> Option<AskedFor>
+/// What a server is asked for of a lock.
+pub(crate) fn asked_in(claims: &LockMap, lock: LockId, server: ServerId) -> Option<AskedFor>
     ensures { result ≡ asked_by server.0 (claimed_at claims.now lock) }
 {
     match claims.get(lock) {

@@ -71,6 +71,16 @@ impl AskedLists {
         }
     }
 
+    /// The lock at a place among those that a server is asked for, with what is asked.
+    pub(crate) fn at(&self, server: ServerId, place: usize) -> Option<(LockId, AskedFor)>
+        ensures { result ≡ slice_get (slice_index_or self.now.asked server.0 []) place }
+    {
+        match self.lists.get(server.0 as usize) {
+            Some(list) => list.at(place),
+            None => None,
+        }
+    }
+
     // Makes room for one more of a server.
     fn reserve_one(&mut self, server: ServerId) -> Result<(), NoMemory>
         requires { server.0 < SERVERS }

@@ -6,14 +6,15 @@ ghost use Rattle.ordered_map.specs.Chunks.{joined};
 ghost use Rattle.std.specs.Map.{lookup, keys_of};
 ghost use Rattle.lock_definitions.specs.Order.{lock_cmp, is_lock};
 ghost use Rattle.lock_definitions.specs.Locks.{no_claim};
-ghost use Rattle.lock_table.specs.Asked.{claim_by};
+ghost use Rattle.lock_table.specs.Asked.{asked_by, claim_by, holders_beside};
 ghost use Rattle.lock_table.specs.Kept.{asked_lists, claimed_at, HasSpace, KeepsSpace, KeepsSpaceBut, Fits, placed, replaced, is_needed, tidied, freed, ended_all};
 
+use crate::asked::asked_in;
 use crate::asked_lists::AskedLists;
 use crate::claimed::{Claimed, no_claim};
 use crate::lock_map::{LockMap, is_reserved};
 use frang_base::limits::SERVERS;
-use frang_base::{LockId, NoMemory, ServerId};
+use frang_base::{LockId, Mode, NoMemory, ServerId};
 use lock_definitions::{AskedFor, Claim};
 use ordered_map::Chunk;
 use std::alloc::Global;
@@ -59,6 +60,23 @@ impl Claims {
         }
     }
 
+    /// What a server is asked for of a lock.
+    pub(crate) fn asked_for(&self, server: ServerId, lock: LockId) -> Option<AskedFor>
+        ensures { result ≡ asked_by server.0 (claimed_at self.now.entries lock) }
+    {
+        asked_in(&self.map, lock, server)
+    }
+
+    /// A bit for each other server that holds a lock in a mode that conflicts.
+    pub(crate) fn holders(&self, server: ServerId, lock: LockId, mode: Mode) -> u32
+        ensures { result ≡ holders_beside server.0 mode (claimed_at self.now.entries lock) }
+    {
+        match self.map.get(lock) {
+            Some(claimed) => claimed.holders(server, mode),
+            None => Claimed::new().holders(server, mode),
+        }
+    }
+
     /// The locks that a server is asked for, ascending, in pieces that follow one another.
     pub(crate) fn asked(&self, server: ServerId) -> &[Chunk<LockId, AskedFor>]
         ensures { joined result.now ≡ slice_index_or (asked_lists self.now.entries) server.0 [] }
@@ -71,6 +89,13 @@ impl Claims {
         ensures { result ≡ slice_get (slice_index_or (asked_lists self.now.entries) server.0 []) 0 }
     {
         self.asked.first(server)
+    }
+
+    /// The lock at a place among those that a server is asked for, with what is asked.
+    pub(crate) fn asked_at(&self, server: ServerId, place: usize) -> Option<(LockId, AskedFor)>
+        ensures { result ≡ slice_get (slice_index_or (asked_lists self.now.entries) server.0 []) place }
+    {
+        self.asked.at(server, place)
     }
 
     /// The claims on a lock that has an entry.

@@ -71,6 +71,13 @@ impl Logs {
         Logs { holds: no_logs() }
     }
 
+    /// The hold on the log of a dead server.
+    pub(crate) fn hold(&self, dead: ServerId) -> Option<LogHold>
+        ensures { result ≡ slice_index_or self.now dead.0 None }
+    {
+        self.holds[dead.0 as usize]
+    }
+
     /// The hold that refuses the log of a dead server to a taker at this tick.
     pub(crate) fn hold_against(&self, dead: ServerId, by: ServerId, now: u64) -> Option<LogHold>
         ensures { result ≡ hold_against by.0 now (slice_index_or self.now dead.0 None) }

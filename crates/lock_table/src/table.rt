@@ -3,14 +3,14 @@ ghost use Rattle.std.specs.Prelude.{◌≡◌, ◌↔◌, ◌≢◌, ◌<◌, �
 ghost use Rattle.std.specs.List.{slice_get};
 ghost use Rattle.std.specs.Option.{option_copied};
 ghost use Rattle.ordered_map.specs.Chunks.{joined};
-ghost use Rattle.lock_definitions.specs.Locks.{no_locks, claim_of, held, AreLocks};
-ghost use Rattle.lock_definitions.specs.Calls.{want_answer, answered, wanted, released, downgraded, revokes, log_taken_by, log_answer, taken, extended, cleared};
+ghost use Rattle.lock_definitions.specs.Locks.{no_locks, claim_of, held, is_wished, log_hold, AreLocks};
+ghost use Rattle.lock_definitions.specs.Calls.{want_answer, answered, asked_for, is_free, wanted, released, downgraded, revokes, log_taken_by, log_answer, taken, extended, cleared};
 ghost use Rattle.lock_table.specs.Table.{HasRoom, KeepsRoom};
 
 use crate::claims::Claims;
 use crate::lock_map::unreserved;
 use crate::logs::Logs;
-use crate::modes::{answered, given_up, shared};
+use crate::modes::{answered, given_up, is_wished_in, shared};
 use frang_base::limits::SERVERS;
 use frang_base::{LockId, Mode, NoMemory, ServerId};
 use lock_definitions::{AskedFor, Claim, LogHold, LogTaken, Wanted};
@@ -116,6 +116,30 @@ impl LockTable {
         self.claim(server, lock).held
     }
 
+    /// Whether a server's wish for a lock in this mode is noted. It takes time logarithmic in the number of locks, and no memory.
+    pub fn is_wished(&self, server: ServerId, lock: LockId, mode: Mode) -> bool
+        ensures { result ≡ is_wished self.now.locks server.0 lock mode }
+    {
+        is_wished_in(self.claim(server, lock), mode)
+    }
+
+    /// Whether no other server holds a lock in a mode that conflicts with this one: exactly where a want would be granted. It takes time
+    /// logarithmic in the number of locks, and no memory.
+    pub fn is_free(&self, server: ServerId, lock: LockId, mode: Mode) -> bool
+        ensures { result ≡ is_free self.now.locks server.0 lock mode }
+    {
+        self.claims.holders(server, lock, mode) == 0
+    }
+
+    /// What a server, 0 to 15, is asked for of a lock, where a noted wish of another server conflicts with its hold: `Downgrade` exactly
+    /// where it holds the lock sole and a shared one is wished. It takes time logarithmic in the number of locks, and no memory.
+    pub fn asked_for(&self, server: ServerId, lock: LockId) -> Option<AskedFor>
+        requires { server.0 < SERVERS }
+        ensures { result ≡ asked_for self.now.locks server.0 lock }
+    {
+        self.claims.asked_for(server, lock)
+    }
+
     /// A server, 0 to 15, wants a lock in a mode. It waits exactly where another server holds the lock and one of the two modes is
     /// sole; the wish is then noted, until it is granted or the server is cleared. Else the mode is granted; who holds the lock
     /// sole keeps it so. After `NoMemory` the locks are as before; it doesn't come where there is room for this want.
@@ -177,6 +201,22 @@ impl LockTable {
         ensures { result ≡ slice_get (revokes self.now.locks server.0) 0 }
     {
         self.claims.first_asked(server)
+    }
+
+    /// What `revokes` lists for a server at a place, counted from 0. `None` exactly where it lists no more than so many. It takes no memory,
+    /// and time in the number of the pieces, of some hundred locks each, in which what the server is asked for lies.
+    pub fn asked_at(&self, server: ServerId, place: usize) -> Option<(LockId, AskedFor)>
+        ensures { result ≡ slice_get (revokes self.now.locks server.0) place }
+    {
+        self.claims.asked_at(server, place)
+    }
+
+    /// Who has taken the log of a dead server, and until when. `None` exactly where nobody has. It takes no memory, and the same time
+    /// however many locks there are.
+    pub fn log_hold(&self, dead: ServerId) -> Option<LogHold>
+        ensures { result ≡ log_hold self.now.locks dead.0 }
+    {
+        self.logs.hold(dead)
     }
 
     /// A server gives up a lock that it holds. It takes no memory, and leaves the room that there was.

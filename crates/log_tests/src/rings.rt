@@ -287,10 +287,15 @@ fn a_ring_answers_as_worked_out_by_hand(rt: HostRuntime) -> Result<(), Fail> {
     expect(&rt, rt.alloc(), &ANSWERS)
 }
 
-static QUARTER: [Row; 11] = [
+static QUARTER: [Row; 12] = [
     (Step::Append(1, 8, 1, 1), "Ok(256)"),
     // 109 frames of 856 bytes have room behind it, and 334 bytes are left
     (Step::Fill(400), "Err(Full { need: 2, free: 0 })"),
+    // none is issued: the oldest name what nothing is asked of and nothing given up of
+    (
+        Step::Oldest,
+        "[(Sector(1), 1), (Sector(2), 1), (Sector(8), 1), (Sector(9), 1)]",
+    ),
     (Step::Reclaim(&[]), "Ok(())"),
     (Step::Room, "(0, 0)"),
     (Step::IssueAll, "319"),
@@ -298,7 +303,7 @@ static QUARTER: [Row; 11] = [
     (Step::Room, "(0, 0)"),
     (Step::Reclaim(&FIRST_QUARTER), "Ok(())"),
     (Step::Room, "(0, 64)"),
-    (Step::Oldest, "[]"),
+    (Step::Oldest, "[(Sector(1), 1), (Sector(2), 1)]"),
     (Step::Append(2, 1, 2, 400), "Ok(449)"),
 ];
 
@@ -312,9 +317,16 @@ static OPEN: [Row; 11] = [
     (Step::Issue, "256: from 0, 58 bytes"),
     (Step::Append(2, 6, 1, 1), "Ok(257)"),
     (Step::Append(3, 8, 1, 1), "Ok(257)"),
-    (Step::Oldest, "[(Sector(5), 1), (Sector(6), 1)]"),
+    // the records in the open sector are among the oldest, and aren't given up
+    (
+        Step::Oldest,
+        "[(Sector(5), 1), (Sector(6), 1), (Sector(7), 1), (Sector(8), 1), (Sector(9), 1)]",
+    ),
     (Step::Reclaim(&DISK), "Ok(())"),
-    (Step::Oldest, "[]"),
+    (
+        Step::Oldest,
+        "[(Sector(6), 1), (Sector(7), 1), (Sector(8), 1), (Sector(9), 1)]",
+    ),
     (Step::Room, "(0, 191)"),
     (Step::Append(4, 8, 2, 1), "Ok(257)"),
     (Step::Issue, "257: from 0, 174 bytes"),

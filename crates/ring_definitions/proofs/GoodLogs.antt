@@ -4,12 +4,12 @@ use Rattle.std.specs.List.{filter, list_any}
 use Rattle.std.proofs.lemmas.Bool.{and_parts, and_from}
 use Rattle.disk_definitions.specs.declared.log_sector.LogSector.{LogSector}
 use Rattle.disk_definitions.specs.LogSectors.{log_sector_bytes}
-use Rattle.disk_definitions.specs.Logs.{Slots, log_end, is_sealed, sectors_read}
+use Rattle.disk_definitions.specs.Logs.{Slots, log_end, log_records, is_sealed, sectors_read}
 use Rattle.disk_definitions.specs.Arriving.{with_sector}
 use Rattle.disk_definitions.proofs.EndLaws.{numbers_are_below, all_numbers_below}
 use Rattle.disk_definitions.proofs.SameLogs.{log_end_same, log_records_same, sector_same}
 use Rattle.ring_definitions.specs.Rings.{Ring, is_record, need, begins, free, sent, last, appended, issued, acked, reclaimed}
-use Rattle.ring_definitions.specs.RingRuns.{Placed, LogState, LogEvent, is_numbered, is_flying, log_at, may_happen, may_all_happen, after_log_event, after_log_events, with_arrived, ReadsBack, EndsWithin}
+use Rattle.ring_definitions.specs.RingRuns.{Placed, LogState, LogEvent, is_numbered, is_flying, log_at, may_happen, may_all_happen, after_log_event, after_log_events, placed_up_to, with_arrived, ReadsBack, EndsWithin}
 use Rattle.ring_definitions.specs.RingRuns.LogEvent.{Append, Issue, Arrive, Acknowledge, GiveUp}
 use Rattle.ring_definitions.specs.RingSteps.{IsSameState, IsGoodLog}
 use Rattle.ring_definitions.proofs.Good.{IsGood}
@@ -17,6 +17,7 @@ use Rattle.ring_definitions.proofs.Stepping.{steps}
 use Rattle.ring_definitions.proofs.Beginning.{length-before, good_first}
 use Rattle.ring_definitions.proofs.Ending.{ends_within}
 use Rattle.ring_definitions.proofs.ReadingBack.{reads_back}
+use Rattle.ring_definitions.proofs.RisingEnds.{end_goes_on}
 
 -- ---- one event more
 
@@ -87,6 +88,7 @@ module _ (v w : LogState) (s : IsSameState v w) where
     prefix = r.prefix;
     missing = r.missing;
     reads = log_records_same v.slots w.slots s.slots ∙ r.reads;
+    ended = r.ended ∙ ap (λ n. length (log_records slots) + length (placed_up_to n w)) (sym (log_end_same v.slots w.slots s.slots));
     reached = r.reached;
     given_up = r.given_up;
   })
@@ -151,3 +153,22 @@ good_reads slots w g = reads_same w (after_log_events (log_at slots) g.events) g
 
 pub good_ends : (slots : Slots) (w : LogState) → IsGoodLog slots w → EndsWithin w
 good_ends slots w g = ends_same w (after_log_events (log_at slots) g.events) g.left (run_ends slots g.events g.low g.high g.sealed g.happened)
+
+run_goes_on : (slots : Slots) (events : List LogEvent) (number : ℕ) → 255 ≤ log_end slots → log_end slots < 2 ^ 62 → is_sealed slots ≡ true → may_all_happen (log_at slots) events ≡ true
+    → is_flying (after_log_events (log_at slots) events) number ≡ true → log_end (after_log_events (log_at slots) events).slots ≤ log_end (after_log_event (after_log_events (log_at slots) events) (Arrive number)).slots
+run_goes_on slots events number low high sealed may flown =
+    let w = after_log_events (log_at slots) events in
+    let g = good_run slots events low high sealed may in
+    end_goes_on (log_end slots - 191) (sectors_read slots (log_end slots) ++ g.rest) w.slots w.flying w.ring.reached (sent w.ring) number flown g.standing
+
+goes_on_same : (v w : LogState) (number : ℕ) → IsSameState v w → log_end w.slots ≤ log_end (after_log_event w (Arrive number)).slots → log_end v.slots ≤ log_end (after_log_event v (Arrive number)).slots
+goes_on_same v w number s risen =
+    let before : log_end v.slots ≡ log_end w.slots = log_end_same v.slots w.slots s.slots in
+    let behind : log_end (after_log_event v (Arrive number)).slots ≡ log_end (after_log_event w (Arrive number)).slots =
+    log_end_same (after_log_event v (Arrive number)).slots (after_log_event w (Arrive number)).slots (after_same v w s (Arrive number)).slots in
+    subst (λ n. n ≤ log_end (after_log_event v (Arrive number)).slots) (sym before) (subst (λ n. log_end w.slots ≤ n) (sym behind) risen)
+
+pub end_of_good_goes_on : (slots : Slots) (w : LogState) (number : ℕ) → IsGoodLog slots w → is_flying w number ≡ true → log_end w.slots ≤ log_end (after_log_event w (Arrive number)).slots
+end_of_good_goes_on slots w number g flown =
+    let v = after_log_events (log_at slots) g.events in
+    goes_on_same w v number g.left (run_goes_on slots g.events number g.low g.high g.sealed g.happened (sym (may_same w v g.left (Arrive number)) ∙ flown))

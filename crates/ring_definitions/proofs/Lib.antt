@@ -10,6 +10,7 @@ pub mod Stepping
 pub mod Beginning
 pub mod Ending
 pub mod ReadingBack
+pub mod RisingEnds
 pub mod GoodLogs
 pub mod RingExamples
 pub mod ReplayLaws

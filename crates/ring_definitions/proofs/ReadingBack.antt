@@ -145,6 +145,7 @@ module _ (slots : Slots) (w : LogState) (low : 255 ≤ log_end slots) (size : le
     reads =
         ap records_among sectors_are ∙ records_among-drop gone_on (before ++ take gone_on all)
         ∙ ap (drop (begun (before ++ take gone_on all) gone_on)) (records_up_to end before all w.placed g.laid gone_on ∙ prefix_of_all end before all w.placed g.laid gone_on);
+    ended = ap (λ n. length (records_among before) + length (up_to n w.placed)) whole;
     reached = plus_more (length (records_among before)) (length (up_to w.ring.reached w.placed)) (length (up_to (end + gone_on) w.placed))
         (up_to_grows w.ring.reached (end + gone_on) w.placed (subst (λ n. w.ring.reached ≤ n) (sym whole) reached_below));
     given_up = begun_up_to end before all w.placed g.laid gone_on w.ring.given_up size near;

@@ -12,7 +12,7 @@ use Rattle.ring_definitions.specs.declared.ring.Named.{Named}
 use Rattle.ring_definitions.specs.declared.ring.RingFault.TheVariants.{Full}
 use Rattle.ring_definitions.specs.RingRuns.{LogEvent, log_at, may_all_happen, after_log_events}
 use Rattle.ring_definitions.specs.RingRuns.LogEvent.{Append, Issue, Arrive, Acknowledge, GiveUp}
-use Rattle.ring_definitions.specs.Rings.{Ring, ring_at, is_record, need, packed_sector, free, appended, append_answer, next_sector, issued, acked, oldest_versions, reclaimed, unwritten}
+use Rattle.ring_definitions.specs.Rings.{Ring, ring_at, is_record, need, packed_sector, free, appended, append_answer, next_sector, issued, acked, oldest, oldest_of, oldest_versions, reclaimable, reclaimable_of, reclaimed, reclaimed_of, unwritten}
 
 -- a record of one short change of a sector
 abbrev redo : ℕ → ℕ → Redo
@@ -166,9 +166,18 @@ the_last_stays = refl
 freed : free (reclaimed full) ≡ 191
 freed = refl
 
--- records in a sector that is issued and in one that is open
+-- records in a sector that is issued and in one that is open: both are among the oldest, and the first alone is given up
 abbrev open_one : Ring
 open_one = record { given_up = 255; reached = 256; above = []; waiting = alone 257 ∷ []; named = named 5 1 256 ∷ named 6 1 257 ∷ [] }
+
+both_are_oldest : oldest open_one ≡ named 5 1 256 ∷ named 6 1 257 ∷ []
+both_are_oldest = refl
+
+one_is_reclaimable : reclaimable open_one ≡ named 5 1 256 ∷ []
+one_is_reclaimable = refl
+
+the_open_one_counts : oldest_versions open_one ≡ (5, 1) ∷ (6, 1) ∷ []
+the_open_one_counts = refl
 
 an_open_sector_stays : (reclaimed open_one).named ≡ named 6 1 257 ∷ []
 an_open_sector_stays = refl
@@ -176,9 +185,39 @@ an_open_sector_stays = refl
 given_up_before_it : (reclaimed open_one).given_up ≡ 256
 given_up_before_it = refl
 
+-- nothing is issued, and so nothing is given up, whatever the oldest records name
+abbrev unissued : Ring
+unissued = record open_one { reached = 255; waiting = alone 256 ∷ alone 257 ∷ [] }
+
+all_are_oldest : oldest unissued ≡ named 5 1 256 ∷ named 6 1 257 ∷ []
+all_are_oldest = refl
+
+none_is_reclaimable : reclaimable unissued ≡ []
+none_is_reclaimable = refl
+
+none_is_given_up : reclaimed unissued ≡ unissued
+none_is_given_up = refl
+
+-- of records that begin in 256, 257, 258 and 259 the first three are the oldest of a log with a quarter of three numbers, and the first two, of which the sectors are issued, are
+-- given up
+abbrev small : Ring
+small = record { given_up = 255; reached = 256; above = false ∷ []; waiting = alone 258 ∷ alone 259 ∷ []; named = named 5 1 256 ∷ named 6 1 257 ∷ named 7 1 258 ∷ named 8 1 259 ∷ [] }
+
+three_are_oldest : oldest_of 3 small ≡ named 5 1 256 ∷ named 6 1 257 ∷ named 7 1 258 ∷ []
+three_are_oldest = refl
+
+two_are_reclaimable : reclaimable_of 3 small ≡ named 5 1 256 ∷ named 6 1 257 ∷ []
+two_are_reclaimable = refl
+
+two_are_given_up : reclaimed_of 3 small ≡ record small { given_up = 257; named = named 7 1 258 ∷ named 8 1 259 ∷ [] }
+two_are_given_up = refl
+
 -- what is known to stand on the disk
 abbrev stands : ℕ → ℕ → Sector × ℕ
 stands sector version = (record { 0 = sector }, version)
+
+the_open_one_is_not_asked : unwritten open_one (stands 5 1 ∷ []) ≡ None
+the_open_one_is_not_asked = refl
 
 all_stand : unwritten full (stands 6 1 ∷ stands 5 2 ∷ []) ≡ None
 all_stand = refl

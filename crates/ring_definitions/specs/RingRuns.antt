@@ -83,12 +83,13 @@ placed_from number w = filter (λ p. nat_le p.first number) w.placed
 abbrev pub all_records : Slots → LogState → List Redo
 all_records slots w = log_records slots ++ map (λ p. p.redo) w.placed
 
--- what the log reads as: a prefix of all records but for some of the first, where the prefix has every record that is acknowledged whole, and of those that are
--- missing at the front each was in the log at first or was given up
+-- what the log reads as: a prefix of all records but for some of the first, where the prefix has those that the log held at first and those appended that end where the log ends or
+-- before, and so every record that is acknowledged whole; and of those that are missing at the front each was in the log at first or was given up
 pub record ReadsBack (slots : Slots) (w : LogState) : Type 0 where
   pub prefix : ℕ
   pub missing : ℕ
   pub reads : log_records w.slots ≡ drop missing (take prefix (all_records slots w))
+  pub ended : prefix ≡ length (log_records slots) + length (placed_up_to (log_end w.slots) w)
   pub reached : length (log_records slots) + length (placed_up_to w.ring.reached w) ≤ prefix
   pub given_up : missing ≤ length (log_records slots) + length (placed_from w.ring.given_up w)
 

@@ -3,7 +3,8 @@
 use Rattle.std.specs.Prelude.{◌-◌, ◌≡◌, ◌≤◌, ◌<◌, ℕ, ◌^◌, List, IsTrue}
 use Rattle.frang_base.specs.declared.limits.TheConstants.{LOG_SECTORS}
 use Rattle.disk_definitions.specs.Logs.{Slots, log_end, is_sealed}
-use Rattle.ring_definitions.specs.RingRuns.{LogState, LogEvent, log_at, may_happen, may_all_happen, after_log_event, after_log_events, ReadsBack, EndsWithin}
+use Rattle.ring_definitions.specs.RingRuns.{LogState, LogEvent, log_at, is_flying, may_happen, may_all_happen, after_log_event, after_log_events, ReadsBack, EndsWithin}
+use Rattle.ring_definitions.specs.RingRuns.LogEvent.{Arrive}
 
 -- the same ring, sectors on their way, records and slots
 pub record IsSameState (v w : LogState) : Type 0 where
@@ -39,3 +40,7 @@ GoodLogsReadBack = (slots : Slots) (w : LogState) → IsGoodLog slots w → Read
 
 abbrev pub GoodLogsEndWithin : Type 0
 GoodLogsEndWithin = (slots : Slots) (w : LogState) → IsGoodLog slots w → EndsWithin w
+
+-- and its end goes no way back where a sector on its way arrives; no other event changes the slots
+abbrev pub ArrivalsRaiseTheEnd : Type 0
+ArrivalsRaiseTheEnd = (slots : Slots) (w : LogState) (number : ℕ) → IsGoodLog slots w → IsTrue (is_flying w number) → log_end w.slots ≤ log_end (after_log_event w (Arrive number)).slots

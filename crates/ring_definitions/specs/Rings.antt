@@ -137,28 +137,37 @@ passed r reached (false ∷ above) = record r { reached = reached; above = false
 abbrev pub acked : Ring → ℕ → Ring
 acked r number = if nat_lt r.reached number then passed r r.reached (slice_set r.above (number - r.reached - 1) true) else r
 
--- ---- giving up so many numbers at once
+-- ---- the oldest numbers, so many, and giving them up at once
 
--- the last of so many oldest numbers, or of those that are issued: what stands in the open sector isn't given up
-abbrev pub oldest_end_of : ℕ → Ring → ℕ
-oldest_end_of quarter r = min (r.given_up + quarter) (sent r)
-
--- it belongs to the oldest records: those that begin in these numbers
+-- it belongs to the oldest records: those that begin in the oldest numbers, issued or not
 abbrev pub is_oldest_of : ℕ → Ring → Named → Bool
-is_oldest_of quarter r x = nat_le x.first (oldest_end_of quarter r)
+is_oldest_of quarter r x = nat_le x.first (r.given_up + quarter)
 
 -- what the oldest records name
 abbrev pub oldest_of : ℕ → Ring → List Named
 oldest_of quarter r = filter (is_oldest_of quarter r) r.named
 
--- the ring without its oldest records
+-- the last of the oldest numbers, or of those that are issued: what stands in the open sector isn't given up
+abbrev pub reclaim_end_of : ℕ → Ring → ℕ
+reclaim_end_of quarter r = min (r.given_up + quarter) (sent r)
+
+-- it belongs to the reclaimable records: those that begin in the oldest numbers, as far as these are issued
+abbrev pub is_reclaimable_of : ℕ → Ring → Named → Bool
+is_reclaimable_of quarter r x = nat_le x.first (reclaim_end_of quarter r)
+
+-- what the reclaimable records name
+abbrev pub reclaimable_of : ℕ → Ring → List Named
+reclaimable_of quarter r = filter (is_reclaimable_of quarter r) r.named
+
+-- the ring without its reclaimable records
 abbrev pub reclaimed_of : ℕ → Ring → Ring
-reclaimed_of quarter r = record r { given_up = oldest_end_of quarter r; named = filter (λ x. not (is_oldest_of quarter r x)) r.named }
+reclaimed_of quarter r = record r { given_up = reclaim_end_of quarter r; named = filter (λ x. not (is_reclaimable_of quarter r x)) r.named }
 
--- ---- giving up 64 numbers
+-- ---- the oldest 64 numbers, and giving them up
 
+-- the last of them
 abbrev pub oldest_end : Ring → ℕ
-oldest_end r = oldest_end_of LOG_QUARTER r
+oldest_end r = r.given_up + LOG_QUARTER
 
 abbrev pub is_oldest : Ring → Named → Bool
 is_oldest r x = is_oldest_of LOG_QUARTER r x
@@ -166,10 +175,20 @@ is_oldest r x = is_oldest_of LOG_QUARTER r x
 abbrev pub oldest : Ring → List Named
 oldest r = oldest_of LOG_QUARTER r
 
+abbrev pub reclaim_end : Ring → ℕ
+reclaim_end r = reclaim_end_of LOG_QUARTER r
+
+abbrev pub is_reclaimable : Ring → Named → Bool
+is_reclaimable r x = is_reclaimable_of LOG_QUARTER r x
+
+abbrev pub reclaimable : Ring → List Named
+reclaimable r = reclaimable_of LOG_QUARTER r
+
 -- the greatest version of each sector named, ascending by sector
 abbrev pub with_named : List (ℕ × ℕ) → Named → List (ℕ × ℕ)
 with_named versions x = with_value versions x.sector.0 (max x.version (unwrap_or (value_at versions x.sector.0) 0))
 
+-- of the sectors that the oldest records name
 abbrev pub oldest_versions : Ring → List (ℕ × ℕ)
 oldest_versions r = fold with_named [] (oldest r)
 
@@ -180,6 +199,6 @@ is_known disk x = list_any (λ d. d.0.0 == x.sector.0 && nat_le x.version d.1) d
 abbrev pub reclaimed : Ring → Ring
 reclaimed r = reclaimed_of LOG_QUARTER r
 
--- `reclaim`: refused exactly where a sector that the oldest records name isn't known to stand on the disk, by the first such
+-- `reclaim`: refused exactly where a sector that the reclaimable records name isn't known to stand on the disk, by the first such
 abbrev pub unwritten : Ring → List (Sector × ℕ) → Option Unwritten
-unwritten r disk = option_map (λ x. record { sector = x.sector }) (find (λ x. not (is_known disk x)) (oldest r))
+unwritten r disk = option_map (λ x. record { sector = x.sector }) (find (λ x. not (is_known disk x)) (reclaimable r))

@@ -12,6 +12,6 @@ mod laws;
 mod logs;
 mod ring;
 
-pub use laws::{good_logs_stay_good, rings_read_back};
+pub use laws::{arrivals_raise_the_end, good_logs_stay_good, rings_read_back};
 pub use logs::{a_log_has_one_end, a_replay_made_twice_is_one, sealing_leaves_the_log};
 pub use ring::{Named, RingFault, Unwritten};

@@ -23,7 +23,7 @@ pub enum RingFault {
     NoMemory,
 }
 
-/// A sector that one of the oldest records names isn't known to stand on the disk in that version or a later one.
+/// A sector that one of the reclaimable records names isn't known to stand on the disk in that version or a later one.
 #[derive(Clone, Copy, Debug)]
 pub struct Unwritten {
     pub sector: Sector,

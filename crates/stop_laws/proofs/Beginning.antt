@@ -24,7 +24,7 @@ use Rattle.disk_definitions.specs.Meets.{IsOfTree, is_directory_use}
 use Rattle.disk_definitions.specs.OnDisk.{StandsBelow}
 use Rattle.disk_definitions.specs.Covers.{cover_of, inode_cover, small_cover, large_cover}
 use Rattle.disk_definitions.specs.Numbered.{sector_in}
-use Rattle.code_plan_laws.specs.Fresh.{fresh_param, fresh_disk}
+use Rattle.disk_definitions.specs.FreshDisk.{fresh_param, fresh_disk}
 use Rattle.code_plan_laws.proofs.Blocks.{param_reads}
 use Rattle.code_plan_laws.proofs.Sectors.{elsewhere}
 use Rattle.code_plan_laws.proofs.FreshStanding.{versions, fresh_stands}

@@ -11,7 +11,7 @@ use Rattle.sector_world.specs.Histories.{Item, logical, in_doubt}
 use Rattle.sector_world.specs.Histories.Item.{Done}
 use Rattle.sector_world.specs.Plans.{Outcome, Legal}
 use Rattle.sector_world.specs.Trees.{Answers, Distinct, tree_of}
-use Rattle.code_plan_laws.specs.Fresh.{fresh_disk}
+use Rattle.disk_definitions.specs.FreshDisk.{fresh_disk}
 use Rattle.line_histories.specs.LinePlans.{sector_plan}
 use Rattle.stop_laws.specs.TwoServers.{number_of_line, at_zero, directory, file_below, file_beside, makes_directory, creates_below, tree_left, tree_of_all, all_three, TwoServers}
 use Rattle.line_histories.specs.Laws.{IsOfOneTree}

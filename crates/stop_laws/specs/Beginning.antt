@@ -10,7 +10,7 @@ use Rattle.disk_definitions.specs.declared.region.Region.{Region}
 use Rattle.disk_definitions.specs.declared.region.Region.TheVariants as region
 use Rattle.disk_definitions.specs.Regions.{sector_of, region_of, free_cover}
 use Rattle.sector_world.specs.World.{World, start}
-use Rattle.code_plan_laws.specs.Fresh.{fresh_disk}
+use Rattle.disk_definitions.specs.FreshDisk.{fresh_disk}
 use Rattle.line_histories.specs.Following.{Follows}
 use Rattle.line_histories.specs.Standing.{StandsNumbered}
 

@@ -12,7 +12,7 @@ use Rattle.sector_world.specs.Histories.{Commit, Entry, Item, logical, settled}
 use Rattle.sector_world.specs.Histories.Entry.{Did, Recovered}
 use Rattle.sector_world.specs.Histories.Item.{Done, Doubt}
 use Rattle.sector_world.specs.Plans.{Outcome, Legal}
-use Rattle.code_plan_laws.specs.Fresh.{fresh_disk}
+use Rattle.disk_definitions.specs.FreshDisk.{fresh_disk}
 use Rattle.line_histories.specs.LinePlans.{sector_plan}
 use Rattle.line_histories.specs.Standing.{StandsForShape}
 

@@ -192,6 +192,33 @@ no_mount_before_the_recovery = λ h. cc
 mounted_after_the_recovery : May armed (answer 1 0 reply.Mounted ∷ answer 2 0 reply.Ok ∷ dead 0 ∷ answer 3 0 reply.Down ∷ recovering 0 255 ∷ recovered 0 0 ∷ []) (answer 4 0 reply.Mounted)
 mounted_after_the_recovery = refl
 
+-- each recovery begins with a line of its own: one of an earlier death isn't enough
+abbrev twice : List Line
+twice = asks 1 0 op.Mount ∷ asks 2 0 op.Crash ∷ asks 3 0 op.Mount ∷ asks 4 0 op.Crash ∷ []
+
+abbrev twice_said : List Said
+twice_said = answer 1 0 reply.Mounted ∷ dead 0 ∷ answer 2 0 reply.Ok ∷ recovering 0 255 ∷ recovered 0 0 ∷ answer 3 0 reply.Mounted ∷ dead 0 ∷ []
+
+each_recovery_begins_first : MayNot twice twice_said (recovered 0 0)
+each_recovery_begins_first = λ h. cc
+
+the_second_is_done_once_begun : May twice (twice_said ++ recovering 0 255 ∷ []) (recovered 0 0)
+the_second_is_done_once_begun = refl
+
+-- `io` is told of a death only by the first answer after it, and only where a call failed
+abbrev failing : List Line
+failing = asks 1 0 op.Mount ∷ asks 2 0 op.Sync ∷ asks 3 0 op.Sync ∷ []
+
+io_as_the_first_answer : MaySay failing opening (faults_from 1) (answer 1 0 reply.Mounted ∷ dead 0 ∷ []) (answer 2 0 reply.Io)
+io_as_the_first_answer = refl
+
+no_io_as_the_second : MaySay failing opening (faults_from 1) (answer 1 0 reply.Mounted ∷ dead 0 ∷ answer 2 0 reply.Io ∷ []) (answer 3 0 reply.Io) → ⊥
+no_io_as_the_second = λ h. cc
+
+no_io_after_the_recovery :
+    MaySay failing opening (faults_from 1) (answer 1 0 reply.Mounted ∷ dead 0 ∷ answer 2 0 reply.Io ∷ recovering 0 255 ∷ recovered 0 0 ∷ []) (answer 3 0 reply.Io) → ⊥
+no_io_after_the_recovery = λ h. cc
+
 -- a stalled server answers nothing; its death leaves it owing `expired` until an unmount
 abbrev stall : List Line
 stall = asks 1 0 op.Mount ∷ asks 2 0 op.Stall ∷ asks 3 0 (op.Stat a) ∷ asks 4 0 op.Unmount ∷ asks 5 0 op.Sync ∷ []
@@ -216,6 +243,22 @@ then_it_is_down = refl
 
 it_owes_after_the_recovery_too : May stall (stalled ++ dead 0 ∷ recovering 0 255 ∷ recovered 0 0 ∷ []) (answer 3 0 reply.Expired)
 it_owes_after_the_recovery_too = refl
+
+-- an unmount of a dead server that owes ends its debt alone: it stays dead, so it may not be mounted, and its log is still recovered
+abbrev owing : List Line
+owing = asks 1 0 op.Mount ∷ asks 2 0 op.Stall ∷ asks 3 0 op.Unmount ∷ asks 4 0 op.Mount ∷ []
+
+abbrev owing_said : List Said
+owing_said = stalled ++ dead 0 ∷ answer 3 0 reply.Ok ∷ []
+
+not_mounted_while_dead : MaySay owing opening (faults_from 2) owing_said (answer 4 0 reply.Mounted) → ⊥
+not_mounted_while_dead = λ h. cc
+
+still_to_be_recovered : MaySay owing opening (faults_from 2) owing_said (recovering 0 255)
+still_to_be_recovered = refl
+
+then_it_is_mounted : MaySay owing opening (faults_from 2) (owing_said ++ recovering 0 255 ∷ recovered 0 0 ∷ []) (answer 4 0 reply.Mounted)
+then_it_is_mounted = refl
 
 no_expired_without_a_stall : MayNot armed (answer 1 0 reply.Mounted ∷ answer 2 0 reply.Ok ∷ dead 0 ∷ []) (answer 3 0 reply.Expired)
 no_expired_without_a_stall = λ h. cc
@@ -324,6 +367,17 @@ no_tree_before_all_answers = λ (h, e). cc
 no_tree_while_a_server_is_dead : MayNot (asks 1 0 op.Mount ∷ asks 2 0 op.Crash ∷ []) (answer 1 0 reply.Mounted ∷ dead 0 ∷ answer 2 0 reply.Ok ∷ []) (said.Node (codes "/") 2 0 0)
 no_tree_while_a_server_is_dead = λ (h, e). cc
 
+-- the last of the sixteen servers counts as the others
+no_tree_while_the_last_server_is_dead :
+    MayNot (asks 1 15 op.Mount ∷ asks 2 15 op.Crash ∷ []) (answer 1 15 reply.Mounted ∷ dead 15 ∷ answer 2 15 reply.Ok ∷ []) (said.Node (codes "/") 2 0 0)
+no_tree_while_the_last_server_is_dead = λ (h, e). cc
+
+a_tree_once_it_is_recovered :
+    May (asks 1 15 op.Mount ∷ asks 2 15 op.Crash ∷ []) (answer 1 15 reply.Mounted ∷ dead 15 ∷ answer 2 15 reply.Ok ∷ recovering 15 255 ∷ recovered 15 0 ∷ [])
+    (said.Node (codes "/") 2 0 0)
+unfolding resolve
+a_tree_once_it_is_recovered = (refl, refl)
+
 the_root_first : MayNot first first_said (said.Node (codes "/a") 1 0 1)
 unfolding resolve
 the_root_first = λ (h, e). cc
@@ -361,6 +415,10 @@ it_is_read_off = refl
 a_stop_recovers_all : left_history parted 1 (answer 1 0 reply.Mounted ∷ host_ok 2 ∷ answer 3 1 reply.Mounted ∷ []) (λ server. server + 5)
     ≡ by_at 0 0 1 op.Mount reply.Mounted ∷ by_at 0 1 3 op.Mount reply.Mounted ∷ recovery 0 5 ∷ recovery 1 6 ∷ []
 a_stop_recovers_all = refl
+
+-- the last of the sixteen servers too
+a_stop_recovers_the_last_server : left_history (asks 1 15 op.Mount ∷ []) 1 (answer 1 15 reply.Mounted ∷ []) (λ server. server + 5) ≡ by_at 0 15 1 op.Mount reply.Mounted ∷ recovery 15 20 ∷ []
+a_stop_recovers_the_last_server = refl
 
 a_stop_in_the_tree_recovers_none : left_history (asks 1 0 op.Mount ∷ []) 1 (answer 1 0 reply.Mounted ∷ said.Node (codes "/") 2 0 0 ∷ []) (λ server. 5) ≡ by_at 0 0 1 op.Mount reply.Mounted ∷ []
 a_stop_in_the_tree_recovers_none = refl

@@ -11,9 +11,10 @@ use Rattle.ring_definitions.specs.Rings.{filled}
 abbrev pub is_waiting : LogSector → Bool
 is_waiting x = nat_lt x.seq LOG_NUMBERS_END && is_packed_sector x
 
--- the numbers stay in their range, the waiting sectors are packed ones, and there is room for 64 issued numbers and for the frame of any record
-pub record IsKept (reached : ℕ) (above : List Bool) (waiting : List LogSector) (window room : ℕ) : Type 0 where
+-- the numbers stay in their range, those that are given up are issued, the waiting sectors are packed ones, and there is room for 64 issued numbers and for the frame of any record
+pub record IsKept (given_up reached : ℕ) (above : List Bool) (waiting : List LogSector) (window room : ℕ) : Type 0 where
   pub first : LOG_SECTORS - 1 ≤ reached
+  pub issued : given_up ≤ reached + length above
   pub numbers : reached + length above + length waiting < LOG_NUMBERS_END
   pub fits : IsTrue (list_all is_waiting waiting)
   pub issues : LOG_IN_FLIGHT_MAX ≤ window

@@ -20,7 +20,7 @@ ReserveOutcome redo old new (Ok done) = IsOk (append_answer old.ring redo) × Ha
 ReserveOutcome redo old new (Err (Full need free)) = append_answer old.ring redo ≡ Err (Full need free)
 ReserveOutcome redo old new (Err NoMemory) = IsOk (append_answer old.ring redo) × ¬ (HasRoom old redo)
 
--- the oldest records are given up, or the first sector that isn't known to be written is named and the ring is as it was
+-- the reclaimable records are given up, or the first sector that isn't known to be written is named and the ring is as it was
 abbrev pub ReclaimOutcome : List (Sector × ℕ) → Ring → Ring → Result (Unit {0}) Unwritten → Type 0
 ReclaimOutcome disk old new (Ok done) = (unwritten old disk ≡ None) × (new ≡ reclaimed old)
 ReclaimOutcome disk old new (Err fault) = (unwritten old disk ≡ Some fault) × (new ≡ old)

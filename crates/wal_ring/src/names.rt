@@ -32,7 +32,7 @@ pub(crate) fn put_names(named: &mut Vec<Named>, redo: &Redo, first: u64)
 }
 
 // It belongs to the records that begin up to this number.
-fn is_oldest(end: u64, x: &Named) -> bool
+fn begins_up_to(end: u64, x: &Named) -> bool
     ensures { result ≡ nat_le x.now.first end }
 {
     x.first <= end
@@ -52,22 +52,22 @@ pub(crate) fn unwritten(end: u64, named: &[Named], disk: &[(Sector, u64)]) -> Op
 {
     let x = named
         .iter()
-        .filter(|x| is_oldest(end, x))
+        .filter(|x| begins_up_to(end, x))
         .find(|x| !is_known(disk, x))?;
     Some(Unwritten { sector: x.sector })
 }
 
 /// Takes out what the records name that begin up to this number.
-pub(crate) fn drop_oldest(end: u64, named: &mut Vec<Named>)
+pub(crate) fn drop_up_to(end: u64, named: &mut Vec<Named>)
     ensures items { named.new.items ≡ filter (λ x. not (nat_le x.first end)) named.old.items }
     ensures capacity { vec_capacity named.new ≡ vec_capacity named.old }
     ensures len { vec_len named.new ≤ vec_len named.old }
 {
-    named.retain(|x| !is_oldest(end, x));
+    named.retain(|x| !begins_up_to(end, x));
 }
 
 /// The sectors that the records name which begin up to this number, each with its greatest version there.
-pub(crate) fn oldest_versions(
+pub(crate) fn versions_up_to(
     alloc: Global,
     end: u64,
     named: &[Named],
@@ -76,7 +76,7 @@ pub(crate) fn oldest_versions(
 {
     let mut versions = BTreeMap::new(alloc);
     for x in named {
-        if is_oldest(end, x) {
+        if begins_up_to(end, x) {
             note(&mut versions, x)?;
         }
     }

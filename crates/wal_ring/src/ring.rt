@@ -7,7 +7,7 @@ ghost use Rattle.ring_definitions.specs.Rings.{is_record, append_answer, ring_at
 ghost use Rattle.wal_ring.specs.SpaciousRings.{HasRoom, KeepsRoom, KeepsRoomBut};
 ghost use Rattle.wal_ring.specs.Outcomes.{AppendOutcome, ReserveOutcome, ReclaimOutcome};
 
-use crate::names::{drop_oldest, listed, oldest_versions, put_names, unwritten};
+use crate::names::{drop_up_to, listed, put_names, unwritten, versions_up_to};
 use crate::packing::{frame_length, open_room, put_frame};
 use frang_base::limits::{
     LOG_BODY_BYTES, LOG_IN_FLIGHT_MAX, LOG_QUARTER, LOG_WINDOW, SECTOR_BYTES,
@@ -47,7 +47,7 @@ impl Model for Ring {
       names = vec_capacity r.named - vec_len r.named;
     } };
 
-    ghost invariant = { λ r. IsKept r.reached r.above.items r.waiting.items (deque_capacity r.above) (vec_capacity r.frame) };
+    ghost invariant = { λ r. IsKept r.given_up r.reached r.above.items r.waiting.items (deque_capacity r.above) (vec_capacity r.frame) };
 }
 
 impl Ring {
@@ -131,11 +131,18 @@ impl Ring {
         }
     }
 
-    // The records that begin up to this number are the oldest: those in the oldest 64 numbers, as far as these are issued.
+    // The records that begin up to this number are the oldest: those in the oldest 64 numbers, issued or not.
     fn oldest_end(&self) -> u64
         ensures { result ≡ rings.oldest_end self.now.ring }
     {
-        self.given_up.saturating_add(LOG_QUARTER).min(self.sent())
+        self.given_up + LOG_QUARTER
+    }
+
+    // The records that begin up to this number are reclaimable: those in the oldest 64 numbers, as far as these are issued.
+    fn reclaim_end(&self) -> u64
+        ensures { result ≡ rings.reclaim_end self.now.ring }
+    {
+        self.oldest_end().min(self.sent())
     }
 
     // How many sectors a record newly begins.
@@ -151,7 +158,7 @@ impl Ring {
     fn free(&self) -> u32
         ensures { result ≡ rings.free self.now.ring }
     {
-        LOG_WINDOW.saturating_sub(self.last().saturating_sub(self.given_up)) as u32
+        LOG_WINDOW.saturating_sub(self.last() - self.given_up) as u32
     }
 
     /// How many sectors a record newly begins, and how many are free: what `Full` would show. It takes no memory.
@@ -245,28 +252,28 @@ impl Ring {
         self.reached
     }
 
-    /// The sectors named in the records that `reclaim` would give up, ascending, each with its greatest version there.
+    /// The sectors named in the oldest records, those that begin in the oldest 64 numbers, issued or not: ascending, each with its greatest version there.
+    /// `reclaim` gives up those of them that begin in an issued number.
     pub fn oldest(&self) -> Result<Vec<(Sector, u64)>, NoMemory>
         ensures { IfOk result (λ list. map (λ entry. (entry.0.0, entry.1)) list.items ≡ oldest_versions self.now.ring) }
     {
-        let versions = oldest_versions(self.alloc, self.oldest_end(), &self.named)?;
+        let versions = versions_up_to(self.alloc, self.oldest_end(), &self.named)?;
         listed(self.alloc, &versions)
     }
 
-    /// Gives up the records that begin in the oldest 64 numbers, as far as these are issued, whose changes all stand on the disk: `disk` names versions that
-    /// are known to stand there. `Unwritten`
-    /// comes exactly where a sector named in these records has no such version, or a lesser one than the record's, and names the first such; the ring is
-    /// then as before. It takes no memory.
+    /// Gives up the reclaimable records, those that begin in the oldest 64 numbers, as far as these are issued: `disk` names versions that are known to
+    /// stand on the disk. `Unwritten` comes exactly where a sector named in these records has no such version, or a lesser one than the record's, and names
+    /// the first such; the ring is then as before. It takes no memory.
     pub fn reclaim(&mut self, disk: &[(Sector, u64)]) -> Result<(), Unwritten>
         ensures outcome { ReclaimOutcome disk.now self.old.ring self.new.ring result }
         ensures room { KeepsRoom self.old self.new }
     {
-        let end = self.oldest_end();
+        let end = self.reclaim_end();
         if let Some(fault) = unwritten(end, &self.named, disk) {
             return Err(fault);
         }
         self.given_up = end;
-        drop_oldest(end, &mut self.named);
+        drop_up_to(end, &mut self.named);
         Ok(())
     }
 }

@@ -2,8 +2,8 @@
 use Rattle.std.proofs.Common.{ℕ, ◌≤◌, ◌<◌, arith}
 use Rattle.tree_definitions.specs.Transcript.{io_answers, unexplained_deaths}
 use Rattle.core_definitions.specs.Runs.{first_state, saids_of}
+use Rattle.core_definitions.specs.Faults.{failed_calls}
 use Rattle.core_transcripts.specs.Faults.{run_faults}
-use Rattle.core_transcripts.specs.Within.{failed_calls}
 use Rattle.core_transcripts.proofs.Along.{deaths_within, io_within, some_failed}
 use Rattle.core_transcripts.proofs.faults.runs_are_within_their_faults.Goals as goal
 

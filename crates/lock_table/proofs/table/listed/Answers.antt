@@ -1,5 +1,5 @@
 -- One piece after the other.
-use Rattle.std.proofs.Common.{◌+◌, ◌++◌, ◌∷◌, [], drop, ap, sym, ◌∙◌, append_assoc}
+use Rattle.std.proofs.Common.{◌+◌, ◌++◌, ◌∷◌, drop, ap, sym, ◌∙◌, append_assoc}
 use Rattle.std.proofs.lemmas.List.{drop_more, drop_all, append-nil}
 use Rattle.ordered_map.specs.Chunks.{joined}
 use Rattle.lock_table.proofs.table.listed.Goals as goal

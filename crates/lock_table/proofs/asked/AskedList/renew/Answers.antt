@@ -1,5 +1,5 @@
 -- Each turn makes one more anew, and after the last all are.
-use Rattle.std.proofs.Common.{◌≡◌, ◌+◌, ◌-◌, length, ap, sym, ◌∙◌, arith, subst}
+use Rattle.std.proofs.Common.{◌≡◌, ◌+◌, ◌-◌, arith, subst}
 use Rattle.lock_table.specs.Kept.{IsWalked}
 use Rattle.lock_table.proofs.Walking.{walked_none, walked_all}
 use Rattle.lock_table.proofs.asked.AskedList.renew.Goals as goal

@@ -1,5 +1,5 @@
 -- There is an entry at the place, whose lock needs no room.
-use Rattle.std.proofs.Common.{◌≡◌, ◌<◌, zero, suc, ℕ, List, [], ◌∷◌, length, Some, None, ap, sym, ◌∙◌, arith, add-one, if◌then◌else◌, is_some}
+use Rattle.std.proofs.Common.{◌≡◌, ◌<◌, zero, suc, ℕ, List, [], ◌∷◌, length, None, ap, ◌∙◌, arith, add-one, if◌then◌else◌, is_some}
 use Rattle.std.specs.List.{slice_get}
 use Rattle.std.specs.Map.{lookup}
 use Rattle.lock_definitions.specs.Order.{is_lock}

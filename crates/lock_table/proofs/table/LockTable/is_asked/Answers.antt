@@ -1,8 +1,7 @@
 -- A list has a first where it isn't empty.
-use Rattle.std.proofs.Common.{◌≡◌, ◌≢◌, ◌↔◌, Bool, List, [], ◌∷◌, Option, Some, None, is_some, IsTrue, refl, sym, ap, ◌∙◌, subst}
+use Rattle.std.proofs.Common.{◌≢◌, ◌↔◌, List, [], ◌∷◌, is_some, IsTrue, refl, sym, ap, ◌∙◌, subst}
 use Rattle.std.proofs.lemmas.Bool.{false≢true}
 use Rattle.std.specs.List.{slice_get}
-use Rattle.frang_base.specs.declared.lock.LockId.{LockId}
 use Rattle.lock_definitions.specs.Calls.{revokes}
 use Rattle.lock_table.proofs.table.LockTable.is_asked.Goals as goal
 

@@ -1,7 +1,7 @@
 use Rattle.std.proofs.Common.{◌≡◌, [], drop, nat_le, fold}
 use Rattle.std.specs.List.{filter}
 use Rattle.ring_definitions.specs.Rings.{with_named}
-use Rattle.wal_ring.proofs.names.oldest_versions.Given as goal
+use Rattle.wal_ring.proofs.names.versions_up_to.Given as goal
 
 abbrev pub invariant-loop-x : goal.invariant-loop-x
 invariant-loop-x l =

@@ -1,0 +1,6 @@
+pub mod Ties
+pub mod Readings
+pub mod Journals
+pub mod Sights
+pub mod Steps
+pub mod Events

@@ -1,0 +1,33 @@
+// Events of the core as events of the world that is kept beside it. Each law is the contract of a public function with an empty body.
+ghost use Rattle.core_world.specs.Events.{AsksAreEvents, DeathsAreEvents, FirstMomentsAreWorlds, GivesAreEvents, RenewsAreEvents, TicksAreEvents};
+
+/// Over a disk whose logs are zero the first moment of a run has a world: its sixteen servers are off, and the host, which is never mounted, has a lease.
+pub fn first_moments_are_worlds()
+    ensures first { FirstMomentsAreWorlds }
+{}
+
+/// A Renew of the core is Renew, which may happen and leads to a world of the next moment.
+pub fn renews_are_events()
+    ensures renew { RenewsAreEvents }
+{}
+
+/// A Tick is Tick, and Renew of the host. It rests on the core alone beside: the host is never mounted.
+pub fn ticks_are_events()
+    ensures tick { TicksAreEvents }
+{}
+
+/// An Ask is Take where the lock is granted, and none where the wish is noted.
+pub fn asks_are_events()
+    ensures ask { AsksAreEvents }
+{}
+
+/// Where the world keeps what every event of the theorem on sectors keeps, a Give is Give, or Lower where another server wishes the lock shared. It rests on the core
+/// alone beside: a write in time of a server that is up is of its present mount.
+pub fn gives_are_events()
+    ensures give { GivesAreEvents }
+{}
+
+/// A death with which nothing goes that is in flight is Crash.
+pub fn deaths_are_events()
+    ensures die { DeathsAreEvents }
+{}

@@ -1,0 +1,9 @@
+pub mod Witnessed
+pub mod AllLogs
+pub mod Ordered
+pub mod Beginning
+pub mod Headline
+pub mod Runs
+pub mod Meaning
+pub mod Prefixes
+pub mod Laws
