@@ -85,6 +85,7 @@ module _ (c : Core) (disk : Sectors) (w : World) (a : ℕ) (lock : LockId) (mode
       until = t.locks.until;
     };
     cached = t.cached;
+    marked = t.marked;
     flying = t.flying;
     disk = t.disk;
     rescues = t.rescues;
@@ -100,6 +101,7 @@ module _ (c : Core) (disk : Sectors) (w : World) (a : ℕ) (lock : LockId) (mode
       until = t.locks.until;
     };
     cached = t.cached;
+    marked = t.marked;
     flying = t.flying;
     disk = t.disk;
     rescues = t.rescues;

@@ -31,7 +31,7 @@ use Rattle.sector_world.specs.Steps.Event.{Crash}
 use Rattle.sector_world.proofs.Crashing.{left_is}
 use Rattle.core_world.specs.Events.{DeathsAreEvents, LeadsQuietly}
 use Rattle.core_world.specs.Journals.{AreJournals, AreSent, IsJournal, IsLogOf, IsSent, Journal, SectorLog, sector_log}
-use Rattle.core_world.specs.Ties.{AreTied, AreLives, AreCached, AreFlying, AreRescues, AreLogged, IsCachedAs, IsFlying, IsShown, IsRescueOf, IsStuck, is_working, is_log_sector, phase_of, expiry_at}
+use Rattle.core_world.specs.Ties.{AreTied, AreLives, AreCached, AreFlying, AreRescues, AreLogged, AreMarked, IsCachedAs, IsMarkedAs, IsFlying, IsShown, IsRescueOf, IsStuck, is_working, is_log_sector, phase_of, expiry_at}
 
 -- what a write is after its server's death
 abbrev pub behind : ℕ → ℕ × core.Flight → ℕ × core.Flight
@@ -77,6 +77,17 @@ module _ (c : Core) (disk : Sectors) (w : World) (a : ℕ) (fate : Fate) (t : Ar
           (λ e. absurd (n e))
           (λ m. at_put (λ x. IsCachedAs (has_version w s) (cover w s) (value_at (c.servers b).cache s) (x s) (put w.page a (λ i. NoPage) b s)) w.slot a (λ i. Absent) b (λ e. absurd (n e))
           (λ m. at_put (λ x. IsCachedAs (has_version w s) (cover w s) (value_at (c.servers b).cache s) (w.slot b s) (x s)) w.page a (λ i. NoPage) b (λ e. absurd (n e)) (λ m. t.cached b s)))
+
+  marked : AreMarked fallen_servers (after w (Crash a))
+  marked b s = go (cases_eq b a)
+    where
+      go : (b ≡ a) ⊎ (b ≡ a → ⊥) → IsMarkedAs (put c.servers a new b).ring.reached (w.acked b) (value_at (put c.servers a new b).cache s) (put w.slot a (λ i. Absent) b s) (put w.page a (λ i. NoPage) b s)
+      go (inl e) =
+          at_put (λ x. IsMarkedAs x.ring.reached (w.acked b) (value_at x.cache s) (put w.slot a (λ i. Absent) b s) (put w.page a (λ i. NoPage) b s)) c.servers a new b (λ i. tt) (λ n. absurd (n e))
+      go (inr n) =
+          at_put (λ x. IsMarkedAs x.ring.reached (w.acked b) (value_at x.cache s) (put w.slot a (λ i. Absent) b s) (put w.page a (λ i. NoPage) b s)) c.servers a new b (λ e. absurd (n e))
+          (λ m. at_put (λ x. IsMarkedAs (c.servers b).ring.reached (w.acked b) (value_at (c.servers b).cache s) (x s) (put w.page a (λ i. NoPage) b s)) w.slot a (λ i. Absent) b (λ e. absurd (n e))
+          (λ m. at_put (λ x. IsMarkedAs (c.servers b).ring.reached (w.acked b) (value_at (c.servers b).cache s) (w.slot b s) (x s)) w.page a (λ i. NoPage) b (λ e. absurd (n e)) (λ m. t.marked b s)))
 
   -- a write left behind
   flies : (s : ℕ) (lock : LockId) (by behalf stamp : ℕ) (block : Block) → IsFlying c.flights s lock by behalf stamp block → IsFlying (left_behind a c.flights) s lock by behalf stamp block
@@ -167,6 +178,7 @@ module _ (c : Core) (disk : Sectors) (w : World) (a : ℕ) (fate : Fate) (t : Ar
     lives = lives;
     locks = t.locks;
     cached = cached;
+    marked = marked;
     flying = λ e. subst (λ b. AreFlying c.setting.segments c.now (if b then core.lost a c.flights else left_behind a c.flights) (after w (Crash a))) (sym loses) (flying (t.flying e));
     disk = t.disk;
     rescues = rescues;

@@ -5,7 +5,7 @@ use Rattle.std.proofs.lemmas.Bool.Decides.{nat_tests}
 use Rattle.std.proofs.lemmas.List.{get_or_past, get_or-replicate, length-replicate}
 use Rattle.frang_base.specs.Functions.{put}
 use Rattle.frang_base.proofs.Basics.{at_put}
-use Rattle.frang_base.specs.declared.limits.TheConstants.{LEASE_TICKS, LOG_SECTORS}
+use Rattle.frang_base.specs.declared.limits.TheConstants.{LEASE_TICKS, LOG_SECTORS, SERVERS}
 use Rattle.frang_base.specs.declared.lock.LockId.{LockId}
 use Rattle.lock_definitions.specs.declared.claim.LogHold.{LogHold}
 use Rattle.lock_definitions.specs.Locks.{Claims, claim_in, claims_of, held, log_hold, no_clerks, no_locks, no_logs}
@@ -21,8 +21,10 @@ use Rattle.core_definitions.specs.Cores.{first_core}
 use Rattle.core_laws.proofs.Membership.{contains_in}
 use Rattle.core_definitions.specs.Scripts.{host_party}
 use Rattle.core_definitions.specs.Settings.{Setting}
-use Rattle.sector_world.specs.World.{World, Absent, NoPage, cover, has_version}
-use Rattle.core_world.specs.Events.{FirstMomentsAreWorlds, first_world}
+use Rattle.sector_world.proofs.Every.{good_run, good_start, good_step}
+use Rattle.sector_world.specs.Steps.Event.{Renew}
+use Rattle.sector_world.specs.World.{Off, Dead, World, Absent, NoPage, cover, has_version, start}
+use Rattle.core_world.specs.Events.{FirstMomentsAreGood, FirstMomentsAreWorlds, LeadsStayGood, first_world}
 use Rattle.core_world.specs.Journals.{IsAtRest, SectorLog, sector_log}
 use Rattle.core_world.specs.Readings.{AllInPlace}
 use Rattle.core_world.specs.Ties.{AreTied, IsCachedAs, expiry_at, taker_of, until_of}
@@ -104,6 +106,7 @@ module _ (setting : Setting) (disk : Sectors) (logged of_files : ℕ → Bool) (
       until = λ d. sym (ap (λ o. until_of o) (none_taken d));
     };
     cached = λ a s. none_cached (has_version w s) (cover w s);
+    marked = λ a s. tt;
     flying = λ e. record { flight = λ s f i. absurd (cc); bytes = λ s f i. absurd (cc); shown = λ one i. absurd (contains_in [] one i) };
     disk = λ s log. stands s;
     rescues = record { under_way = λ by r who i. absurd (cc); known = λ r i. absurd (cc) };
@@ -116,3 +119,13 @@ first_moments setting disk logged of_files home journal zero = record {
   journals = λ a who. rests (slots_of disk a) (sector_log (first_world disk logged of_files home) a) (λ slot below. zero a slot below);
   readings = λ by recovery who i. absurd (cc);
 }
+
+-- the host may renew at once
+pub first_good : FirstMomentsAreGood
+first_good disk logged of_files home = good_step (start SERVERS disk logged of_files home) (Renew host_party) (record { alive = λ e. absurd (off_dead e); later = omega arith }) (good_start SERVERS disk logged of_files home)
+  where
+    off_dead : Off ≢ Dead
+    off_dead e = cc
+
+pub stays_good : LeadsStayGood
+stays_good w v good leads = good_run w leads.events leads.world leads.run good

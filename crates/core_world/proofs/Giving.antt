@@ -8,7 +8,7 @@ use Rattle.std.specs.Ordering.{nat_cmp}
 use Rattle.std.specs.Option.{is_some}
 use Rattle.frang_base.specs.Functions.{put, put_lock}
 use Rattle.frang_base.specs.Locks.{same_lock}
-use Rattle.frang_base.proofs.Basics.{at_put, lock_of, lock_same}
+use Rattle.frang_base.proofs.Basics.{at_put, lock_of, lock_same, put_same}
 use Rattle.frang_base.proofs.Tests.{same_tests}
 use Rattle.frang_base.specs.declared.lock.LockId.{LockId}
 use Rattle.frang_base.specs.declared.lock.Mode.{Mode}
@@ -39,12 +39,12 @@ use Rattle.core_laws.proofs.Keeping.{locks_of_run}
 use Rattle.core_laws.proofs.Membership.{contains_in}
 use Rattle.core_laws.proofs.OrderKeeping.{order_of_run}
 use Rattle.disk_definitions.proofs.Listed.{Among}
-use Rattle.sector_world.specs.World.{World, Up, Slot, Absent, Page, NoPage, cover, has_version}
+use Rattle.sector_world.specs.World.{World, Up, Slot, Absent, Page, NoPage, CleanPage, DirtyPage, FreedPage, cover, has_version}
 use Rattle.sector_world.specs.Guards.{CanGive, NotDirty, NoDirtyPage}
 use Rattle.sector_world.specs.Steps.{after, page_lowered, stays, goes}
 use Rattle.sector_world.specs.Steps.Event.{Give, Lower}
 use Rattle.sector_world.specs.Kinds.{Good}
-use Rattle.core_world.specs.Ties.{AreTied, AreCached, IsCachedAs, IsSlotOf, IsPageOf, IsNoPage, IsFlying, phase_of}
+use Rattle.core_world.specs.Ties.{AreTied, AreCached, AreMarked, IsCachedAs, IsDirtAs, IsMarkedAs, IsPageMark, IsSlotOf, IsPageOf, IsNoPage, IsFlying, phase_of}
 use Rattle.core_world.specs.Events.{GivesAreEvents, LeadsQuietly, OwnAreFresh}
 use Rattle.core_world.proofs.Tables.{held_released, held_downgraded}
 use Rattle.core_world.proofs.Cached.{unless_under, dropped_at}
@@ -186,6 +186,36 @@ lowered_page false k (Some kept) slot page true t = (t.0, t.1, go kept.dirt t.2)
     go None i = ap page_lowered i
     go (Some dirt) i = (i.0, ap page_lowered i.1)
 
+-- marks stay where less is cached
+marked_given : (reached acked : ℕ) (l : LockId) (e : Option Kept) (slot : Slot) (page : Page) (b : Bool) → IsMarkedAs reached acked e slot page →
+    IsMarkedAs reached acked (unless_under l e) (if b then Absent else slot) (if b then NoPage else page)
+marked_given reached acked l None slot page b t = tt
+marked_given reached acked l (Some kept) slot page b t = by (is_lock l kept.cover) b
+  where
+    dirt : (o : Option Dirt) → IsDirtAs reached acked o Absent NoPage
+    dirt None = tt
+    dirt (Some d) = (tt, tt)
+
+    by : (under at : Bool) → IsMarkedAs reached acked (if under then None else Some kept) (if at then Absent else slot) (if at then NoPage else page)
+    by true at = tt
+    by false true = dirt kept.dirt
+    by false false = t
+
+marked_lowered : (reached acked : ℕ) (e : Option Kept) (slot : Slot) (page : Page) (b : Bool) → IsMarkedAs reached acked e slot page → IsMarkedAs reached acked e slot (if b then page_lowered page else page)
+marked_lowered reached acked e slot page false t = t
+marked_lowered reached acked None slot page true t = tt
+marked_lowered reached acked (Some kept) slot page true t = by kept.dirt t
+  where
+    lowered : (mark : ℕ) (p : Page) → IsPageMark reached acked mark p → IsPageMark reached acked mark (page_lowered p)
+    lowered mark NoPage i = tt
+    lowered mark (CleanPage block) i = tt
+    lowered mark (DirtyPage block m) i = i
+    lowered mark (FreedPage m) i = tt
+
+    by : (o : Option Dirt) → IsDirtAs reached acked o slot page → IsDirtAs reached acked o slot (page_lowered page)
+    by None i = tt
+    by (Some d) i = (i.0, lowered d.mark page i.1)
+
 pub put_held : (f h : ℕ → LockId → Option Mode) → ((b : ℕ) (k : LockId) → f b k ≡ h b k) → (a : ℕ) (l : LockId) (v : Option Mode) (b : ℕ) (k : LockId) → put_lock f a l v b k ≡ put_lock h a l v b k
 put_held f h same a l v b k = ap (λ x. if nat_eq b a then (if same_lock k l then v else x) else x) (same b k)
 
@@ -210,6 +240,7 @@ module _ (c : Core) (disk : Sectors) (w : World) (a : ℕ) (lock : LockId) (t : 
       until = t.locks.until;
     };
     cached = cached;
+    marked = marked;
     flying = t.flying;
     disk = t.disk;
     rescues = rescues_alike (put c.servers a new) c.servers given_alike (after w (Give a lock)) t.rescues;
@@ -219,6 +250,30 @@ module _ (c : Core) (disk : Sectors) (w : World) (a : ℕ) (lock : LockId) (t : 
       own : (s : ℕ) → IsCachedAs (has_version w s) (cover w s) (value_at new.cache s) (if same_lock (cover w s) lock then Absent else w.slot a s) (if same_lock (cover w s) lock then NoPage else w.page a s)
       own s = subst (λ e. IsCachedAs (has_version w s) (cover w s) e (if same_lock (cover w s) lock then Absent else w.slot a s) (if same_lock (cover w s) lock then NoPage else w.page a s)) (sym (dropped_at (c.servers a).cache lock s (sorted a)))
           (given_as (has_version w s) (cover w s) lock (value_at (c.servers a).cache s) (w.slot a s) (w.page a s) (t.cached a s))
+
+      own_marks : (s : ℕ) → IsMarkedAs (c.servers a).ring.reached (w.acked a) (value_at new.cache s) (if same_lock (cover w s) lock then Absent else w.slot a s) (if same_lock (cover w s) lock then NoPage else w.page a s)
+      own_marks s = subst (λ e. IsMarkedAs (c.servers a).ring.reached (w.acked a) e (if same_lock (cover w s) lock then Absent else w.slot a s) (if same_lock (cover w s) lock then NoPage else w.page a s)) (sym (dropped_at (c.servers a).cache lock s (sorted a)))
+          (marked_given (c.servers a).ring.reached (w.acked a) lock (value_at (c.servers a).cache s) (w.slot a s) (w.page a s) (same_lock (cover w s) lock) (t.marked a s))
+
+      marked : AreMarked (put c.servers a new) (after w (Give a lock))
+      marked b s = go (cases_eq b a)
+        where
+          go : (b ≡ a) ⊎ (b ≡ a → ⊥) → IsMarkedAs (put c.servers a new b).ring.reached (w.acked b) (value_at (put c.servers a new b).cache s)
+              (put w.slot a (λ i. if same_lock (cover w i) lock then Absent else w.slot a i) b s) (put w.page a (λ i. if same_lock (cover w i) lock then NoPage else w.page a i) b s)
+          go (inl e) = subst (λ n. IsMarkedAs (put c.servers a new n).ring.reached (w.acked n) (value_at (put c.servers a new n).cache s)
+              (put w.slot a (λ i. if same_lock (cover w i) lock then Absent else w.slot a i) n s) (put w.page a (λ i. if same_lock (cover w i) lock then NoPage else w.page a i) n s)) (sym e)
+              (subst (λ x. IsMarkedAs x.ring.reached (w.acked a) (value_at x.cache s) (put w.slot a (λ i. if same_lock (cover w i) lock then Absent else w.slot a i) a s)
+              (put w.page a (λ i. if same_lock (cover w i) lock then NoPage else w.page a i) a s)) (sym (put_same c.servers a new))
+              (subst (λ f. IsMarkedAs (c.servers a).ring.reached (w.acked a) (value_at new.cache s) (f s) (put w.page a (λ i. if same_lock (cover w i) lock then NoPage else w.page a i) a s))
+              (sym (put_same w.slot a (λ i. if same_lock (cover w i) lock then Absent else w.slot a i)))
+              (subst (λ f. IsMarkedAs (c.servers a).ring.reached (w.acked a) (value_at new.cache s) (if same_lock (cover w s) lock then Absent else w.slot a s) (f s))
+              (sym (put_same w.page a (λ i. if same_lock (cover w i) lock then NoPage else w.page a i))) (own_marks s))))
+          go (inr n) = at_put (λ x. IsMarkedAs x.ring.reached (w.acked b) (value_at x.cache s) (put w.slot a (λ i. if same_lock (cover w i) lock then Absent else w.slot a i) b s)
+              (put w.page a (λ i. if same_lock (cover w i) lock then NoPage else w.page a i) b s)) c.servers a new b (λ e. absurd (n e))
+              (λ m. at_put (λ x. IsMarkedAs (c.servers b).ring.reached (w.acked b) (value_at (c.servers b).cache s) (x s) (put w.page a (λ i. if same_lock (cover w i) lock then NoPage else w.page a i) b s))
+              w.slot a (λ i. if same_lock (cover w i) lock then Absent else w.slot a i) b (λ e. absurd (n e))
+              (λ m. at_put (λ x. IsMarkedAs (c.servers b).ring.reached (w.acked b) (value_at (c.servers b).cache s) (w.slot b s) (x s)) w.page a (λ i. if same_lock (cover w i) lock then NoPage else w.page a i) b
+              (λ e. absurd (n e)) (λ m. t.marked b s)))
 
       cached : AreCached (put c.servers a new) (after w (Give a lock))
       cached b s = at_put3 b (cases_eq b a)
@@ -253,6 +308,11 @@ module _ (c : Core) (disk : Sectors) (w : World) (a : ℕ) (lock : LockId) (t : 
         (λ e. subst (λ n. IsCachedAs (has_version w s) (cover w s) (value_at (c.servers n).cache s) (w.slot n s) (if same_lock (cover w s) lock then page_lowered (w.page a s) else w.page a s)) (sym e)
         (lowered_page (has_version w s) (cover w s) (value_at (c.servers a).cache s) (w.slot a s) (w.page a s) (same_lock (cover w s) lock) (t.cached a s)))
         (λ n. t.cached b s);
+    marked = λ b s. at_put (λ x. IsMarkedAs (c.servers b).ring.reached (w.acked b) (value_at (c.servers b).cache s) (w.slot b s) (x s)) w.page a
+        (λ i. if same_lock (cover w i) lock then page_lowered (w.page a i) else w.page a i) b
+        (λ e. subst (λ n. IsMarkedAs (c.servers n).ring.reached (w.acked n) (value_at (c.servers n).cache s) (w.slot n s) (if same_lock (cover w s) lock then page_lowered (w.page a s) else w.page a s)) (sym e)
+        (marked_lowered (c.servers a).ring.reached (w.acked a) (value_at (c.servers a).cache s) (w.slot a s) (w.page a s) (same_lock (cover w s) lock) (t.marked a s)))
+        (λ n. t.marked b s);
     flying = t.flying;
     disk = t.disk;
     rescues = t.rescues;

@@ -6,3 +6,4 @@ pub mod Living
 pub mod Asking
 pub mod Dying
 pub mod First
+pub mod Hosts

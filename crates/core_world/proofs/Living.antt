@@ -24,12 +24,12 @@ use Rattle.sector_world.specs.World.{World, Off, Up, Dead, cover, has_version}
 use Rattle.sector_world.specs.Guards as guards
 use Rattle.sector_world.specs.Steps.{after, stays, goes}
 use Rattle.sector_world.specs.Steps.Event.{Renew, Tick}
-use Rattle.core_world.specs.Events.{IsHostOff, RenewsAreEvents, TicksAreEvents}
+use Rattle.core_world.specs.Events.{HostsAreOff, RenewsAreEvents, TicksAreEvents}
 use Rattle.core_world.specs.Journals.{IsJournal, IsLogOf, Journal, SectorLog, sector_log}
 use Rattle.core_world.specs.Steps.{IsReached}
 use Rattle.core_world.specs.Ties.{AreTied, AreFlying, IsCachedAs, expiry_at, phase_of}
 use Rattle.core_world.proofs.Giving.{up_is}
-use Rattle.core_world.proofs.Same.{AreAlike, journals_alike, logged_alike, put_alike, put_as, readings_alike, rescues_alike}
+use Rattle.core_world.proofs.Same.{AreAlike, journals_alike, logged_alike, marked_alike, put_alike, put_as, readings_alike, rescues_alike}
 use Rattle.core_world.proofs.Tables.{locks_renewed}
 
 -- who is up isn't dead, and who is off isn't
@@ -79,6 +79,7 @@ module _ (c : Core) (disk : Sectors) (w : World) (a : ℕ) (t : AreTied c disk w
     };
     locks = locks_renewed c.locks w a (lease_to c.setting c.now) (w.now + LEASE_TICKS) m t.locks (after w (Renew a)) refl refl refl;
     cached = λ b s. subst (λ k. IsCachedAs (has_version w s) (cover w s) (value_at k s) (w.slot b s) (w.page b s)) (sym (put_as (λ x. x.cache) c.servers a new refl b)) (t.cached b s);
+    marked = marked_alike (put c.servers a new) c.servers alike (after w (Renew a)) (put_as (λ x. x.cache) c.servers a new refl) t.marked;
     flying = t.flying;
     disk = t.disk;
     rescues = rescues_alike (put c.servers a new) c.servers alike (after w (Renew a)) t.rescues;
@@ -163,7 +164,7 @@ later_log life.Still ring now flights disk log a j g = later_journal life.Still 
 later_log (life.Doomed fate) ring now flights disk log a j g = later_journal (life.Doomed fate) ring now flights disk log a j g
 later_log life.Dead ring now flights disk log a j g = later_journal life.Dead ring now flights disk log a j g
 
-module _ (c : Core) (disk : Sectors) (w : World) (t : AreTied c disk w) (off : IsHostOff c) (m : lease_to c.setting (c.now + 1) ≡ c.now + 1 + LEASE_TICKS) where
+module _ (c : Core) (disk : Sectors) (w : World) (t : AreTied c disk w) (off : (c.servers host_party).phase ≡ life.Off) (m : lease_to c.setting (c.now + 1) ≡ c.now + 1 + LEASE_TICKS) where
   abbrev ticking : World
   ticking = after w Tick
 
@@ -206,6 +207,7 @@ module _ (c : Core) (disk : Sectors) (w : World) (t : AreTied c disk w) (off : I
     };
     locks = locks_renewed c.locks ticking host_party (lease_to c.setting (c.now + 1)) (w.now + 1 + LEASE_TICKS) (m ∙ moment) t.locks ticked_world refl refl refl;
     cached = λ b s. subst (λ k. IsCachedAs (has_version w s) (cover w s) (value_at k s) (w.slot b s) (w.page b s)) (sym (flushed_as c (c.now + 1) (λ x. x.cache) (λ x. refl) b)) (t.cached b s);
+    marked = marked_alike flushed c.servers so ticked_world (flushed_as c (c.now + 1) (λ x. x.cache) (λ x. refl)) t.marked;
     flying = λ e. flies (t.flying e);
     disk = t.disk;
     rescues = rescues_alike flushed c.servers so ticked_world t.rescues;
@@ -224,8 +226,8 @@ module _ (c : Core) (disk : Sectors) (w : World) (t : AreTied c disk w) (off : I
       next : (n l : ℕ) → n + l < n + 1 + l
       next n l = omega arith
 
-pub ticks : TicksAreEvents
-ticks s w journal r t off makes = record {
+pub ticks : HostsAreOff → TicksAreEvents
+ticks hosts s w journal r t makes = record {
   leads = record {
     events = Tick ∷ Renew host_party ∷ [];
     world = after (after w Tick) (Renew host_party);
@@ -243,6 +245,9 @@ ticks s w journal r t off makes = record {
   where
     m : lease_to s.core.setting (s.core.now + 1) ≡ s.core.now + 1 + LEASE_TICKS
     m = lasts s r (s.core.now + 1)
+
+    off : (s.core.servers host_party).phase ≡ life.Off
+    off = hosts s r
 
     same : AreAlike (flushed_at s.core (s.core.now + 1)) s.core.servers
     same = flushed_alike s.core (s.core.now + 1)

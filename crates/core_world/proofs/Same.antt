@@ -2,6 +2,7 @@
 use Rattle.std.proofs.Common.{◌≡◌, ◌⊎◌, ◌&&◌, ◌||◌, ◌==◌, ℕ, refl, sym, ap, ◌∙◌, subst, IsTrue}
 use Rattle.frang_base.specs.Functions.{put}
 use Rattle.frang_base.proofs.Basics.{at_put}
+use Rattle.sector_bytes.specs.SectorMaps.{value_at}
 use Rattle.sector_bytes.specs.Sectors.{Sectors}
 use Rattle.core_definitions.specs.Flights as core
 use Rattle.core_definitions.specs.LineGuards.{is_server}
@@ -10,7 +11,7 @@ use Rattle.core_definitions.specs.Scripts.{host_party}
 use Rattle.core_definitions.specs.Servers.{Server, is_up}
 use Rattle.sector_world.specs.World.{World}
 use Rattle.core_world.specs.Journals.{AreJournals, AreReadings, IsLogOf, Journal, sector_log}
-use Rattle.core_world.specs.Ties.{AreLives, AreRescues, AreLogged, IsRescueOf, IsStuck, phase_of, expiry_at}
+use Rattle.core_world.specs.Ties.{AreLives, AreRescues, AreLogged, AreMarked, IsMarkedAs, IsRescueOf, IsStuck, phase_of, expiry_at}
 
 -- a server of which this is the same
 pub put_as : {X : Type 0} (f : Server → X) (servers : ℕ → Server) (a : ℕ) (new : Server) → f new ≡ f (servers a) → (b : ℕ) → f (put servers a new b) ≡ f (servers b)
@@ -66,3 +67,8 @@ module _ (next servers : ℕ → Server) (alike : AreAlike next servers) (w : Wo
   journals_alike now flights disk journal g b who =
       subst (λ p. IsLogOf p (next b).ring now flights disk (sector_log w b) b (journal b)) (sym (alike.phase b))
       (subst (λ r. IsLogOf (servers b).phase r now flights disk (sector_log w b) b (journal b)) (sym (alike.ring b)) (g b who))
+
+  pub marked_alike : ((b : ℕ) → (next b).cache ≡ (servers b).cache) → AreMarked servers w → AreMarked next w
+  marked_alike cache g b s =
+      subst (λ k. IsMarkedAs (next b).ring.reached (w.acked b) (value_at k s) (w.slot b s) (w.page b s)) (sym (cache b))
+      (subst (λ r. IsMarkedAs r.reached (w.acked b) (value_at (servers b).cache s) (w.slot b s) (w.page b s)) (sym (alike.ring b)) (g b s))

@@ -33,7 +33,15 @@ FirstMomentsAreWorlds =
     (setting : Setting) (disk : Sectors) (logged of_files : ℕ → Bool) (home : ℕ → LockId) (journal : ℕ → Journal) →
     ((server slot : ℕ) → slot < LOG_SECTORS → slots_of disk server slot ≡ zeros SECTOR_BYTES) → IsWorldOf (first_state setting disk) (first_world disk logged of_files home) journal
 
+-- and it keeps what every event of the theorem on sectors keeps
+abbrev pub FirstMomentsAreGood : Type 0
+FirstMomentsAreGood = (disk : Sectors) (logged of_files : ℕ → Bool) (home : ℕ → LockId) → Good (first_world disk logged of_files home)
+
 -- ---- events
+
+-- so does what a step leads to
+abbrev pub LeadsStayGood : Type 0
+LeadsStayGood = (w : World) (v : RunMoment) → Good w → (leads : Leads w v) → Good leads.world
 
 -- the history is the same, and what it began with
 pub record IsSameStory (w u : World) : Type 0 where
@@ -54,12 +62,12 @@ RenewsAreEvents =
     (s : RunMoment) (w : World) (journal : ℕ → Journal) (a : ℕ) → IsReached s → IsWorldOf s w journal → Makes s (Renew a) Nothing → LeadsQuietly w (next s (Renew a) Nothing)
 
 -- the host is never mounted
-abbrev pub IsHostOff : Core → Type 0
-IsHostOff c = (c.servers host_party).phase ≡ Off
+abbrev pub HostsAreOff : Type 0
+HostsAreOff = (s : RunMoment) → IsReached s → (s.core.servers host_party).phase ≡ Off
 
 abbrev pub TicksAreEvents : Type 0
 TicksAreEvents =
-    (s : RunMoment) (w : World) (journal : ℕ → Journal) → IsReached s → IsWorldOf s w journal → IsHostOff s.core → Makes s Tick Nothing → LeadsQuietly w (next s Tick Nothing)
+    (s : RunMoment) (w : World) (journal : ℕ → Journal) → IsReached s → IsWorldOf s w journal → Makes s Tick Nothing → LeadsQuietly w (next s Tick Nothing)
 
 abbrev pub AsksAreEvents : Type 0
 AsksAreEvents =

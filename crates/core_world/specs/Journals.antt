@@ -69,7 +69,8 @@ IsCounted log a ring end ends = record {
   rises : (n m : ℕ) → n ≤ m → ends n ≤ ends m;
   durable : IsUpTo ends end a log.durable log.history;
   acked : IsUpTo ends ring.reached a log.acked log.history;
-  newest : (log.last ≤ log.acked) ⊎ (IsOwn a log.last log.history × (ends log.last ≤ last ring));
+  newest : (log.last ≤ log.acked) ⊎ IsOwn a log.last log.history;
+  ends_at : ends log.last ≡ last ring;
 }
 
 -- ---- a log since its server's mount

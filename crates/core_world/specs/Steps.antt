@@ -1,8 +1,9 @@
 -- The core as a world of the theorem on sectors: a world is tied to each moment of a run, and each step of the core is a run of events there, which may happen and
 -- lead to a world that is tied to the next moment.
-use Rattle.std.specs.Prelude.{ℕ, List}
+use Rattle.std.specs.Prelude.{◌≡◌, ℕ, Ok, List}
 use Rattle.frang_base.specs.declared.said.Said.{Said}
 use Rattle.frang_base.specs.declared.script.Line.{Line}
+use Rattle.script_definitions.specs.ScriptText.{script_of}
 use Rattle.sector_bytes.specs.Sectors.{Sectors}
 use Rattle.core_definitions.specs.Runs.{State as RunMoment, Run, Step, first_state, saids_of}
 use Rattle.core_definitions.specs.Settings.{setting_of}
@@ -27,9 +28,11 @@ pub record Leads (w : World) (v : RunMoment) : Type 0 where
   pub journal : ℕ → Journal
   pub is : IsWorldOf v world journal
 
--- a moment of a run over the logs of a disk
+-- a moment of a run of a script that was read, over the logs of a disk
 pub record IsReached (s : RunMoment) : Type 0 where
+  pub bytes : List ℕ
   pub script : List Line
+  pub read : script_of bytes ≡ Ok script
   pub segments : ℕ
   pub number : ℕ
   pub disk : Sectors
@@ -37,7 +40,7 @@ pub record IsReached (s : RunMoment) : Type 0 where
 
 -- ---- the step law
 
--- what the lines said tell of the history in a world: happenings, and what is asked of them
+-- what the lines said tell of a world's history, and what is asked of it and of its opening: it is given where the law is shown
 abbrev pub Telling : Type 1
 Telling = List Said → World → Type 0
 

@@ -1,6 +1,6 @@
 -- What ties a world of the theorem on sectors to a state of the core. The world is kept beside the core as data: what the core doesn't have (the history, what a read
 -- shows, covers, the opening) is free in it but for these ties. Each tie is of parts of the core and of parts of the world, so that it is the same type where an event leaves these alone.
-use Rattle.std.specs.Prelude.{◌≡◌, ◌≤◌, ◌+◌, ◌⊎◌, ℕ, ◌==◌, Bool, true, false, ◌&&◌, ◌||◌, if◌then◌else◌, Option, Some, None, IsTrue}
+use Rattle.std.specs.Prelude.{◌≡◌, ◌≤◌, ◌+◌, ◌⊎◌, ◌↔◌, ℕ, ◌==◌, Bool, true, false, ◌&&◌, ◌||◌, if◌then◌else◌, Option, Some, None, IsTrue}
 use Rattle.std.specs.List.{Contains}
 use Rattle.std.specs.Option.{option_map}
 use Rattle.frang_base.specs.declared.limits.TheConstants.{LEASE_TICKS}
@@ -86,6 +86,31 @@ IsCachedAs false lock (Some kept) slot page = (kept.cover ≡ lock) × (slot ≡
 
 abbrev pub AreCached : (ℕ → Server) → World → Type 0
 AreCached servers w = (a s : ℕ) → IsCachedAs (has_version w s) (cover w s) (value_at (servers a).cache s) (w.slot a s) (w.page a s)
+
+-- ---- marks
+
+-- the log is acknowledged up to a mark of the core exactly where the operations up to that of the world are
+abbrev pub IsMark : (reached acked mark m : ℕ) → Type 0
+IsMark reached acked mark m = (mark ≤ reached) ↔ (m ≤ acked)
+
+abbrev pub IsSlotMark : (reached acked mark : ℕ) → Slot → Type 0
+IsSlotMark reached acked mark (Dirty block m) = IsMark reached acked mark m
+IsSlotMark reached acked mark slot = Unit {0}
+
+abbrev pub IsPageMark : (reached acked mark : ℕ) → Page → Type 0
+IsPageMark reached acked mark (DirtyPage block m) = IsMark reached acked mark m
+IsPageMark reached acked mark page = Unit {0}
+
+abbrev pub IsDirtAs : (reached acked : ℕ) → Option Dirt → Slot → Page → Type 0
+IsDirtAs reached acked None slot page = Unit {0}
+IsDirtAs reached acked (Some dirt) slot page = IsSlotMark reached acked dirt.mark slot × IsPageMark reached acked dirt.mark page
+
+abbrev pub IsMarkedAs : (reached acked : ℕ) → Option Kept → Slot → Page → Type 0
+IsMarkedAs reached acked None slot page = Unit {0}
+IsMarkedAs reached acked (Some kept) slot page = IsDirtAs reached acked kept.dirt slot page
+
+abbrev pub AreMarked : (ℕ → Server) → World → Type 0
+AreMarked servers w = (a s : ℕ) → IsMarkedAs (servers a).ring.reached (w.acked a) (value_at (servers a).cache s) (w.slot a s) (w.page a s)
 
 -- ---- writes in flight
 
@@ -177,6 +202,7 @@ AreTied c disk w = record {
   lives : AreLives c.now c.servers w;
   locks : AreHeld c.locks w;
   cached : AreCached c.servers w;
+  marked : AreMarked c.servers w;
   flying : c.over ≡ false → AreFlying c.setting.segments c.now c.flights w;
   disk : IsOnDisk c.setting.segments disk w;
   rescues : AreRescues c.servers w;

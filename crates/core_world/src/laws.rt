@@ -1,9 +1,15 @@
 // Events of the core as events of the world that is kept beside it. Each law is the contract of a public function with an empty body.
-ghost use Rattle.core_world.specs.Events.{AsksAreEvents, DeathsAreEvents, FirstMomentsAreWorlds, GivesAreEvents, RenewsAreEvents, TicksAreEvents};
+ghost use Rattle.core_world.specs.Events.{AsksAreEvents, DeathsAreEvents, FirstMomentsAreGood, FirstMomentsAreWorlds, GivesAreEvents, HostsAreOff, LeadsStayGood, RenewsAreEvents, TicksAreEvents};
 
-/// Over a disk whose logs are zero the first moment of a run has a world: its sixteen servers are off, and the host, which is never mounted, has a lease.
+use core_laws::who_rests_has_nothing;
+use core_transcripts::{read_scripts_are_numbered, runs_have_their_faults};
+
+/// Over a disk whose logs are zero the first moment of a run has a world: its sixteen servers are off, and the host, which is never mounted, has a lease. It keeps what
+/// every event of the theorem on sectors keeps, and so does each world to which events of it lead.
 pub fn first_moments_are_worlds()
     ensures first { FirstMomentsAreWorlds }
+    ensures good { FirstMomentsAreGood }
+    ensures stays { LeadsStayGood }
 {}
 
 /// A Renew of the core is Renew, which may happen and leads to a world of the next moment.
@@ -11,10 +17,15 @@ pub fn renews_are_events()
     ensures renew { RenewsAreEvents }
 {}
 
-/// A Tick is Tick, and Renew of the host. It rests on the core alone beside: the host is never mounted.
+/// A Tick is Tick, and Renew of the host, which is never mounted in runs of scripts that were read.
 pub fn ticks_are_events()
+    ensures off { HostsAreOff }
     ensures tick { TicksAreEvents }
-{}
+{
+    who_rests_has_nothing();
+    runs_have_their_faults();
+    read_scripts_are_numbered();
+}
 
 /// An Ask is Take where the lock is granted, and none where the wish is noted.
 pub fn asks_are_events()
