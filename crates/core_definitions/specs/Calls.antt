@@ -61,3 +61,9 @@ acts_by (MakePut ticket put) Written = act.Put put taken.Written ∷ []
 acts_by (MakePut ticket put) Late = act.Put put taken.Late ∷ []
 acts_by (Say text) heard = act.Said text ∷ []
 acts_by call heard = []
+
+-- whose call fails, by what is heard: the party of a get, or the one that writes
+abbrev pub fails_by : Call → Heard → Option ℕ
+fails_by (Get party sector) GetFailed = Some party
+fails_by (MakePut ticket put) (PutFailed new) = Some put.server.0
+fails_by call heard = None

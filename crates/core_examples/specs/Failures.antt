@@ -133,9 +133,11 @@ abbrev pub is_second_load : Event → Bool
 is_second_load (Load by slot) = slot == 1
 is_second_load event = false
 
+abbrev pub host_load_run : Driven
+host_load_run = driven_promptly (record { get = is_second_load; put = no_put }) 5 (at_tick 31 (having idle 0 dead))
+
 -- a slot of a log that it recovers
-pub a_failed_load_of_the_host_ends_it :
-    (driven_promptly (record { get = is_second_load; put = no_put }) 5 (at_tick 31 (having idle 0 dead))).events ≡ Recover 0 255 ∷ Load 255 0 ∷ Load 255 1 ∷ []
+pub a_failed_load_of_the_host_ends_it : host_load_run.events ≡ Recover 0 255 ∷ Load 255 0 ∷ Load 255 1 ∷ []
 unfolding no_clerks no_logs any_server zeros
 a_failed_load_of_the_host_ends_it = refl
 
@@ -143,9 +145,11 @@ abbrev pub is_look : Event → Bool
 is_look (Look by sector) = true
 is_look event = false
 
+abbrev pub host_look_run : Driven
+host_look_run = driven_promptly (record { get = is_look; put = no_put }) 5 (recovering_over logged_disk)
+
 -- a sector that the log names
-pub a_failed_look_of_the_host_ends_it :
-    (driven_promptly (record { get = is_look; put = no_put }) 5 (recovering_over logged_disk)).events ≡ Look 255 10737418241 ∷ []
+pub a_failed_look_of_the_host_ends_it : host_look_run.events ≡ Look 255 10737418241 ∷ []
 unfolding no_clerks no_logs any_server zeros changed frame_read
 a_failed_look_of_the_host_ends_it = refl
 
@@ -153,9 +157,11 @@ a_failed_look_of_the_host_ends_it = refl
 abbrev pub first_put : ℕ → Option Bool
 first_put ticket = if ticket == 0 then Some true else None
 
+abbrev pub host_put_run : Driven
+host_put_run = driven_promptly (record { get = no_get; put = first_put }) 5 (recovering_over logged_disk)
+
 -- a write of its recovery
-pub a_failed_put_of_the_host_ends_it :
-    (driven_promptly (record { get = no_get; put = first_put }) 5 (recovering_over logged_disk)).events ≡ Look 255 10737418241 ∷ Issue 255 10737418241 ∷ Arrive 0 ∷ []
+pub a_failed_put_of_the_host_ends_it : host_put_run.events ≡ Look 255 10737418241 ∷ Issue 255 10737418241 ∷ Arrive 0 ∷ []
 unfolding no_clerks no_logs any_server zeros changed frame_read
 a_failed_put_of_the_host_ends_it = refl
 

@@ -7,13 +7,14 @@ use Rattle.tree_definitions.specs.History.{fresh_opening}
 use Rattle.sector_bytes.specs.Blocks.{Block, zero_block}
 use Rattle.sector_bytes.specs.Bytes.{zeros}
 use Rattle.disk_definitions.specs.declared.param.Param.{Param}
+use Rattle.disk_definitions.specs.FreshDisk.{fresh_disk}
 use Rattle.disk_definitions.specs.Params.{param_bytes}
 use Rattle.core_definitions.specs.Cores.{first_core, stamp_of}
-use Rattle.core_definitions.specs.Opening.{disk_put, fresh_puts, fresh_start, image_puts, moment_of, opening_deeds, opening_put}
+use Rattle.core_definitions.specs.Opening.{IsStart, OnFresh, disk_put, fresh_puts, fresh_start, image_puts, moment_of, opening_deeds, opening_put}
 use Rattle.core_definitions.specs.Runs.{acts_of, first_state}
 use Rattle.core_definitions.specs.Scripts.{host_party}
 use Rattle.core_definitions.specs.Settings.{setting_of}
-use Rattle.core_examples.specs.Driving.{entries_block, entry, inode_block, parameters, segment_block}
+use Rattle.core_examples.specs.Driving.{fresh_disk as runs_fresh_disk, entries_block, entry, inode_block, parameters, segment_block}
 
 -- ---- a fresh disk of one segment
 
@@ -63,6 +64,15 @@ pub the_record_has_them :
     ∷ act.Put (opening_put (0, parameters 1)) taken.Written ∷ []
 unfolding zeros
 the_record_has_them = refl
+
+-- it is the disk over which the worked runs of the core begin
+pub it_is_the_fresh_disk : (sector : ℕ) → fresh_disk 1 sector ≡ runs_fresh_disk sector
+unfolding zeros
+it_is_the_fresh_disk sector = refl
+
+-- a run may begin from it
+pub a_run_may_begin : (script : List Line) → IsStart (fresh_start script 1)
+a_run_may_begin script = OnFresh script 1 refl
 
 -- run 1 begins over the root alone, with no directory's block
 pub a_run_begins_so : (script : List Line) → moment_of (fresh_start script 1) ≡ first_state (setting_of script 1 1) (fresh_start script 1).disk

@@ -31,8 +31,8 @@ pub use leases::{leases_last, writes_last};
 pub use openings::the_opening_puts_the_disk;
 pub use orders::{a_tick_waits_for_the_others, each_key_stands_once, enabled_events_ascend};
 pub use steps::{
-    enabled_lists_what_may_happen, holders_stay_compatible, nothing_follows_the_end, the_clock_only_rises,
-    writes_stand_once,
+    enabled_lists_what_may_happen, holders_stay_compatible, nothing_follows_the_end,
+    the_clock_only_rises, writes_stand_once,
 };
 pub use waits::{a_mount_reads_its_whole_log, a_recovery_ends_once_it_is_done};
 pub use wishes::a_wish_is_for_the_next_lock;
