@@ -46,7 +46,7 @@ full_is : (slots : Slots) (end : ℕ) → is_full (decoded slots) end ≡ is_end
 unfolding is_full
 full_is slots end = ap (λ b. nat_le 191 end && b) (same_all (λ n. is_some (sector_with (decoded slots) n)) (stands slots) (λ n. ap is_some (with_is slots n)) (window end))
 
-numbers_are : (slots : Slots) → numbers_of (decoded slots) ≡ numbers_in slots
+pub numbers_are : (slots : Slots) → numbers_of (decoded slots) ≡ numbers_in slots
 unfolding decoded logs.numbers_in
 numbers_are slots = filter_map-map (option_map seq_of) (λ slot. log_sector_in slot (slots slot)) (below 256)
 

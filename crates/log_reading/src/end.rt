@@ -1,9 +1,10 @@
 // Where a log ends, and its sectors up to there.
-ghost use Rattle.std.specs.Prelude.{◌≡◌, ◌%◌, ◌<◌, ◌^◌, IfOk, length};
+ghost use Rattle.std.specs.Prelude.{◌≡◌, ◌%◌, ◌<◌, ◌^◌, IfOk, length, nat_le};
+ghost use Rattle.std.specs.List.{list_all};
 ghost use Rattle.std.specs.Option.{option_copied};
 ghost use Rattle.frang_base.specs.declared.limits.TheConstants.{LOG_SECTORS};
 ghost use Rattle.log_reading.specs.Decoded as spec;
-ghost use Rattle.log_reading.specs.Decoded.{end_of, is_full, sector_with};
+ghost use Rattle.log_reading.specs.Decoded.{end_of, is_full, numbers_of, sector_with};
 
 use disk_definitions::LogSector;
 use frang_base::NoMemory;
@@ -36,6 +37,20 @@ fn is_full(sectors: &[Option<LogSector>], end: u64) -> bool
     }
     for k in 0..LOG_WINDOW {
         if sector_numbered(sectors, end - (LOG_WINDOW - 1) + k).is_none() {
+            return false;
+        }
+    }
+    true
+}
+
+// No slot has a number above this one.
+pub(crate) fn are_up_to(sectors: &[Option<LogSector>], end: u64) -> bool
+    ensures { result ≡ list_all (λ n. nat_le n end) (numbers_of sectors.now) }
+{
+    for sector in sectors {
+        if let Some(sector) = sector
+            && sector.seq > end
+        {
             return false;
         }
     }

@@ -4,7 +4,7 @@ ghost use Rattle.frang_base.specs.declared.limits.TheConstants.{LOG_SECTORS};
 ghost use Rattle.disk_definitions.specs.Logs as logs;
 ghost use Rattle.log_reading.specs.Decoded.{decoded};
 
-use crate::end::{log_end, sectors_up_to};
+use crate::end::{are_up_to, log_end, sectors_up_to};
 use crate::records::records_among;
 use disk_definitions::LogSector;
 use frang_base::limits::LOG_SECTORS;
@@ -25,6 +25,17 @@ pub fn read_log(alloc: Global, slots: &[Block]) -> Result<(u64, Vec<Redo>), NoMe
     let read = sectors_up_to(alloc, &sectors, end)?;
     let records = records_among(alloc, &read)?;
     Ok((end, records))
+}
+
+/// Whether a log is sealed, by the blocks of its 256 slots: no slot has a number above the log's end. It takes memory for what stands in
+/// the slots, and reads each once.
+pub fn is_sealed(alloc: Global, slots: &[Block]) -> Result<bool, NoMemory>
+    requires { length slots.now ≡ LOG_SECTORS }
+    ensures { IfOk result (λ sealed. sealed ≡ logs.is_sealed (λ slot. slice_index_or slots.now slot [])) }
+{
+    let sectors = sectors_of(alloc, slots)?;
+    let end = log_end(&sectors);
+    Ok(are_up_to(&sectors, end))
 }
 
 // What stands in each slot.

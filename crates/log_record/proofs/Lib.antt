@@ -3,3 +3,4 @@ pub mod RecordBack
 pub mod RecordRead
 pub mod RecordSteps
 pub mod FrameBack
+pub mod Lengths

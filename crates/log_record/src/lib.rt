@@ -14,4 +14,4 @@ pub use frame::{FRAME_BYTES_MAX, FRAME_HEAD, Frame, push_frame, read_frame};
 pub use laws::{records_read_back, what_is_written_reads_back};
 pub use reading::decode;
 pub use sector::{sector_read, sector_write};
-pub use writing::{encode, record_length};
+pub use writing::{encode, fits, record_length};

@@ -34,8 +34,8 @@ pub fn decode(alloc: Global, bytes: &[u8]) -> Result<Option<Redo>, NoMemory>
     }))
 }
 
-// There are 1 to 32 changes, each well formed, and their sectors ascend.
-fn fit(changes: &[Change]) -> bool
+/// There are 1 to 32 changes, each well formed, and their sectors ascend.
+pub(crate) fn fit(changes: &[Change]) -> bool
     ensures { result ≡ (nat_le 1 (length changes.now) && nat_le (length changes.now) RECORD_CHANGES_MAX && (list_all is_change changes.now && sectors_ascend 0 changes.now)) }
 {
     !changes.is_empty() && changes.len() <= RECORD_CHANGES_MAX && are_changes(changes)

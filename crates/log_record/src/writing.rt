@@ -1,11 +1,13 @@
 // The body of a record, from its changes.
 ghost use Rattle.std.specs.Prelude.{◌≡◌, ◌+◌, ◌<◌, ◌≤◌, ◌^◌, ◌++◌, length, true, vec_len, vec_capacity, IfOk, IsTrue, OnOk, OnErr};
-ghost use Rattle.frang_base.specs.declared.limits.TheConstants.{RECORD_BYTES_MAX, SECTOR_BYTES};
+ghost use Rattle.frang_base.specs.declared.limits.TheConstants.{SECTOR_BYTES};
 ghost use Rattle.byteorder.specs.Endian.{little_bytes};
 ghost use Rattle.sector_bytes.specs.Changes.{is_change};
 ghost use Rattle.disk_definitions.specs.Records.{change_bytes, patch_bytes, record_bytes, record_fits};
 
+use crate::reading::fit;
 use byteorder::{ByteOrder, LittleEndian};
+use frang_base::limits::RECORD_BYTES_MAX;
 use frang_base::{Change, NoMemory, Patch, Redo};
 use std::alloc::Global;
 
@@ -71,8 +73,27 @@ pub fn record_length(redo: &Redo) -> usize
     requires { IsTrue (record_fits redo.now.changes) }
     ensures { result ≡ length (record_bytes redo.now.changes) }
 {
-    let mut bytes = RECORD_HEAD;
+    body_length(redo.changes.as_slice())
+}
+
+/// Whether a record may stand in a log: it has 1 to 32 changes, each well formed, in ascending order of their sectors, and its body
+/// has at most 4,096 bytes. It takes no memory, and time in the number of its changes and patches.
+pub fn fits(redo: &Redo) -> bool
+    ensures { result ≡ record_fits redo.now.changes }
+{
     let changes = redo.changes.as_slice();
+    if !fit(changes) {
+        return false;
+    }
+    body_length(changes) <= RECORD_BYTES_MAX
+}
+
+// How many bytes the body of these changes has.
+fn body_length(changes: &[Change]) -> usize
+    requires { length (record_bytes changes.now) < 2 ^ 18 }
+    ensures { result ≡ length (record_bytes changes.now) }
+{
+    let mut bytes = RECORD_HEAD;
     for change in changes {
         bytes += change_length(change);
     }
@@ -80,7 +101,7 @@ pub fn record_length(redo: &Redo) -> usize
 }
 
 fn change_length(change: &Change) -> usize
-    requires { length (change_bytes change.now) ≤ RECORD_BYTES_MAX }
+    requires { length (change_bytes change.now) < 2 ^ 18 }
     ensures { result ≡ length (change_bytes change.now) }
 {
     let mut bytes = CHANGE_HEAD;
