@@ -37,21 +37,21 @@ ReadsNoBytes (op.Read path off len) = ⊥
 ReadsNoBytes _ = Unit {0}
 
 pub plan_plain : (o : Op) → ReadsNoBytes o → (h : Hand) (birth when : ℕ) → AsksOnly IsNoBytes (plan_of h birth when o)
-plan_plain (op.Create path) r h birth when = made_asks IsNoBytes no_inode no_directory no_segment h birth (File [] 1 0) path
-plan_plain (op.Mkdir path) r h birth when = made_asks IsNoBytes no_inode no_directory no_segment h birth (Dir [] 0) path
-plan_plain (op.Symlink path target) r h birth when = made_asks IsNoBytes no_inode no_directory no_segment h birth (Link target 1) path
-plan_plain (op.Link path to) r h birth when = linked_asks IsNoBytes no_inode no_directory no_segment h path to
+plan_plain (op.Create path) r h birth when = made_asks IsNoBytes no_inode no_directory h (λ k c. no_segment k) birth (File [] 1 0) path
+plan_plain (op.Mkdir path) r h birth when = made_asks IsNoBytes no_inode no_directory h (λ k c. no_segment k) birth (Dir [] 0) path
+plan_plain (op.Symlink path target) r h birth when = made_asks IsNoBytes no_inode no_directory h (λ k c. no_segment k) birth (Link target 1) path
+plan_plain (op.Link path to) r h birth when = linked_asks IsNoBytes no_inode no_directory h (λ k c. no_segment k) path to
 plan_plain (op.Unlink path) r h birth when = unlinked_asks IsNoBytes no_inode no_directory no_segment path
 plan_plain (op.Rmdir path) r h birth when = removed_asks IsNoBytes no_inode no_directory no_segment path
-plan_plain (op.Rename path to) r h birth when = renamed_asks IsNoBytes no_inode no_directory no_segment h path to
+plan_plain (op.Rename path to) r h birth when = renamed_asks IsNoBytes no_inode no_directory h (λ k c. no_segment k) no_segment path to
 plan_plain (op.Write path off bytes) r h birth when = absurd r
 plan_plain (op.Fill path off len value) r h birth when = absurd r
-plan_plain (op.Truncate path len) r h birth when = file_asks IsNoBytes no_inode no_directory no_segment (cutting when len) (cutting_asks IsNoBytes no_inode no_directory no_segment when len) path
+plan_plain (op.Truncate path len) r h birth when = file_asks IsNoBytes no_inode no_directory (cutting when len) (cutting_asks IsNoBytes no_inode no_directory no_segment when len) path
 plan_plain (op.Read path off len) r h birth when = absurd r
-plan_plain (op.Stat path) r h birth when = described_asks IsNoBytes no_inode no_directory no_segment path
-plan_plain (op.List path) r h birth when = listed_asks IsNoBytes no_inode no_directory no_segment path
-plan_plain (op.Readlink path) r h birth when = target_asks IsNoBytes no_inode no_directory no_segment path
-plan_plain (op.Time path) r h birth when = timed_asks IsNoBytes no_inode no_directory no_segment path
+plan_plain (op.Stat path) r h birth when = described_asks IsNoBytes no_inode no_directory path
+plan_plain (op.List path) r h birth when = listed_asks IsNoBytes no_inode no_directory path
+plan_plain (op.Readlink path) r h birth when = target_asks IsNoBytes no_inode no_directory path
+plan_plain (op.Time path) r h birth when = timed_asks IsNoBytes no_inode no_directory path
 plan_plain op.Sync r h birth when = tt
 plan_plain op.Mount r h birth when = tt
 plan_plain op.Unmount r h birth when = tt
@@ -116,7 +116,7 @@ module _ (s : Store) (byte large_byte : ℕ → ℕ → ℕ) where
 
   line_blind : (o : Op) (h : Hand) (birth when : ℕ) → Blind (plan_of_line h birth when o)
   line_blind o h birth when =
-      blind_bind s byte large_byte (resolved o) (λ w. plan_step h birth when w.trail w.step) (resolved_asks IsNoBytes no_inode no_directory no_segment o) (λ w. step_blind h birth when w.trail w.step)
+      blind_bind s byte large_byte (resolved o) (λ w. plan_step h birth when w.trail w.step) (resolved_asks IsNoBytes no_inode no_directory o) (λ w. step_blind h birth when w.trail w.step)
 
 pub bytes_dont_decide : BytesDontDecide plan_of_line
 bytes_dont_decide o h s birth when byte large_byte = let b = line_blind s byte large_byte o h birth when in (b.looked, b.comes)

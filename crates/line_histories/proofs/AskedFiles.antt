@@ -1,5 +1,7 @@
 -- Plans of looks, of cuts and of file bytes ask for inodes, for the eight parts of small blocks, for segments, and for parts of large blocks.
 use Rattle.std.proofs.Common.{ℕ, zero, suc, ◌<◌, ◌+◌, ◌-◌, ◌*◌, ◌/◌, ◌%◌, ◌==◌, ◌&&◌, Bool, true, false, nat_lt, min, max, if◌then◌else◌, Option, Some, None, List, [], ◌∷◌, ◌++◌, map, take, drop, arith}
+use Rattle.std.specs.List.{Contains}
+use Rattle.std.specs.Map.{keys_of}
 use Rattle.frang_base.specs.declared.reply.Reply.{Reply}
 use Rattle.frang_base.specs.declared.reply.Reply.TheVariants as reply
 use Rattle.tree_definitions.specs.Numbers.{below}
@@ -18,7 +20,7 @@ use Rattle.disk_definitions.specs.LookPlans.{plan_of_node, with_inode, at_inode,
 use Rattle.line_histories.proofs.Asking.{AsksOnly, asks_bind}
 use Rattle.line_histories.proofs.AskedNames.{walk_asks, over_asks, held_asks}
 
-module _ (P : Sector → Type 0) (inode : (i : ℕ) → P (InodeAt i)) (directory : (k part : ℕ) → part < 8 → P (DirectoryAt k part)) (segment : (k : ℕ) → P (SegmentAt k)) where
+module _ (P : Sector → Type 0) (inode : (i : ℕ) → P (InodeAt i)) (directory : (k part : ℕ) → part < 8 → P (DirectoryAt k part)) where
   -- ---- the node that a path names
 
   spot_asks : (next : Target → Ask Plan) → ((t : Target) → AsksOnly P (next t)) → (v : Spot) (dirs : List ℕ) → AsksOnly P (at_spot v dirs refused next)
@@ -28,7 +30,7 @@ module _ (P : Sector → Type 0) (inode : (i : ℕ) → P (InodeAt i)) (director
   spot_asks next each (Lost r) dirs = tt
 
   node_asks : (next : Target → Ask Plan) → ((t : Target) → AsksOnly P (next t)) → (path : List (List ℕ)) → AsksOnly P (plan_of_node path next)
-  node_asks next each path = asks_bind P (walk path) (λ w. at_target w refused next) (walk_asks P inode directory segment path) (λ w. spot_asks next each w.spot w.dirs)
+  node_asks next each path = asks_bind P (walk path) (λ w. at_target w refused next) (walk_asks P inode directory path) (λ w. spot_asks next each w.spot w.dirs)
 
   with_inode_asks : (next : List ℕ → StoredNode → Ask Plan) → ((touched : List ℕ) (x : StoredNode) → AsksOnly P (next touched x)) → (touched : List ℕ) (o : Option StoredNode) → AsksOnly P (with_inode next touched o)
   with_inode_asks next each touched None = tt
@@ -90,12 +92,12 @@ module _ (P : Sector → Type 0) (inode : (i : ℕ) → P (InodeAt i)) (director
   pub file_asks : (next : ℕ → List ℕ → StoredNode → Ask Plan) → ((i : ℕ) (touched : List ℕ) (x : StoredNode) → AsksOnly P (next i touched x)) → (path : List (List ℕ)) → AsksOnly P (plan_of_file path next)
   file_asks next each path = node_asks (at_file next) (at_file_asks next each) path
 
-  pub cutting_asks : (when len i : ℕ) (touched : List ℕ) (x : StoredNode) → AsksOnly P (cutting when len i touched x)
-  cutting_asks when len i touched x = go (nat_lt x.size len)
+  pub cutting_asks : ((k : ℕ) → P (SegmentAt k)) → (when len i : ℕ) (touched : List ℕ) (x : StoredNode) → AsksOnly P (cutting when len i touched x)
+  cutting_asks segment when len i touched x = go (nat_lt x.size len)
     where
       go : (b : Bool) → AsksOnly P (if b then refused reply.BadOffset touched else finish_over (cut_segments x len) (cut_by when i touched x len))
       go true = tt
-      go false = over_asks P inode directory segment (cut_segments x len) (cut_by when i touched x len)
+      go false = over_asks P inode directory (cut_segments x len) (λ k c. segment k) (cut_by when i touched x len)
 
   -- ---- bytes
 
@@ -138,7 +140,7 @@ module _ (P : Sector → Type 0) (inode : (i : ℕ) → P (InodeAt i)) (director
     writes_asks w x y (suc n) t next each =
         write_asks w x y t (λ one. write_sectors w x y (t + 1) n (λ more. next (one ++ more))) (λ one. writes_asks w x y n (t + 1) (λ more. next (one ++ more)) (λ more. each (one ++ more)))
 
-    module _ (h : Hand) (w : Writing) (i : ℕ) (touched : List ℕ) (x : StoredNode) where
+    module _ (h : Hand) (held : (k : ℕ) → Contains (keys_of h.held) k → P (SegmentAt k)) (w : Writing) (i : ℕ) (touched : List ℕ) (x : StoredNode) where
       in_asks : (picks : List ℕ) (o : Option ℕ) → AsksOnly P (writing_in w i touched x picks o)
       in_asks picks o =
           let y = resized x w.when (max x.size (end_of w)) picks o in
@@ -159,7 +161,7 @@ module _ (P : Sector → Type 0) (inode : (i : ℕ) → P (InodeAt i)) (director
 
           go : (b : Bool) → AsksOnly P (if b then writing_in w i touched x [] o else read_held h p)
           go true = in_asks [] o
-          go false = held_asks P inode directory segment h p (picked_asks o (picked_many h.held more))
+          go false = held_asks P inode directory h held p (picked_asks o (picked_many h.held more))
 
       large_asks : (o : Option ℕ) → AsksOnly P (writing_large h w i touched x o)
       large_asks None = tt
@@ -174,5 +176,5 @@ module _ (P : Sector → Type 0) (inode : (i : ℕ) → P (InodeAt i)) (director
           go : (a b c : Bool) → AsksOnly P (if a then refused reply.BadOffset touched else (if b then refused reply.TooBig touched else (if c then read_held h p else writing_small h w i touched x None)))
           go true b c = tt
           go false true c = tt
-          go false false true = held_asks P inode directory segment h p (large_asks (picked_large h.held))
+          go false false true = held_asks P inode directory h held p (large_asks (picked_large h.held))
           go false false false = small_asks None

@@ -8,7 +8,7 @@ use Rattle.frang_base.specs.declared.op.Op.TheVariants as op
 use Rattle.frang_base.specs.declared.reply.Reply.TheVariants as reply
 use Rattle.tree_definitions.specs.Resolve.{is_absolute, target_text}
 use Rattle.disk_definitions.specs.Store.{StoredNode, StoredEntry}
-use Rattle.disk_definitions.specs.Ask.{Sector, InodeAt, DirectoryAt, SegmentAt, Ask, Got, ReadInode, bind}
+use Rattle.disk_definitions.specs.Ask.{Sector, InodeAt, DirectoryAt, Ask, Got, ReadInode, bind}
 use Rattle.disk_definitions.specs.Walks.{Found, search, is_named}
 use Rattle.disk_definitions.specs.Resolving.{PathEnd, Leads, Refused, Resolution, leads, refused, behind, passes, at_target, with_target, at_entry, at_gap, at_name, below_inode, resolve_names, resolve_from, resolve}
 use Rattle.disk_definitions.specs.Lines.{is_found, by_path, by_second, by_first, over_paths, resolved}
@@ -17,7 +17,7 @@ use Rattle.line_laws.proofs.Links.{follow_in}
 use Rattle.line_histories.proofs.Asking.{AsksOnly, asks_bind}
 use Rattle.line_histories.proofs.AskedNames.{search_asks}
 
-module _ (P : Sector → Type 0) (inode : (i : ℕ) → P (InodeAt i)) (directory : (k part : ℕ) → part < 8 → P (DirectoryAt k part)) (segment : (k : ℕ) → P (SegmentAt k)) where
+module _ (P : Sector → Type 0) (inode : (i : ℕ) → P (InodeAt i)) (directory : (k part : ℕ) → part < 8 → P (DirectoryAt k part)) where
   abbrev Asks : Ask Resolution → Type 0
   Asks p = AsksOnly P p
 
@@ -58,7 +58,7 @@ module _ (P : Sector → Type 0) (inode : (i : ℕ) → P (InodeAt i)) (director
         by_kind : (c : Bool) → Asks (if c then passes dir (bind (search node.small (is_named name) 0 (8 * node.blocks)) next) else refused reply.NotDir)
         by_kind true =
             let looked = search node.small (is_named name) 0 (8 * node.blocks) in
-            passed_asks dir (bind looked next) (asks_bind P looked next (search_asks P inode directory segment node.small (is_named name) (8 * node.blocks) 0) (found_asks dir above here names into on))
+            passed_asks dir (bind looked next) (asks_bind P looked next (search_asks P inode directory node.small (is_named name) (8 * node.blocks) 0) (found_asks dir above here names into on))
         by_kind false = tt
 
     names_asks : (names : List (List ℕ)) (dir : ℕ) (above : List (List ℕ)) → Asks (resolve_names last f dir above names)

@@ -1,5 +1,6 @@
 -- Walks and plans of names ask for inodes, for the eight parts of directories' blocks and for segments, and for nothing else.
 use Rattle.std.proofs.Common.{ℕ, zero, suc, ◌<◌, ◌+◌, ◌*◌, ◌/◌, ◌%◌, ◌==◌, ◌&&◌, not, Bool, true, false, nat_le, nat_lt, if◌then◌else◌, Option, Some, None, List, [], ◌∷◌, ◌++◌, arith}
+use Rattle.std.specs.List.{Contains}
 use Rattle.std.specs.Map.{keys_of}
 use Rattle.frang_base.specs.declared.reply.Reply.TheVariants as reply
 use Rattle.tree_definitions.specs.declared.node.Node.{Node}
@@ -15,7 +16,7 @@ use Rattle.disk_definitions.specs.Plans.Room.{Inside, InBlock, NoRoom}
 use Rattle.disk_definitions.specs.NamePlans.{made_by, making_in, making_with, making, plan_made, linked_by, linking_in, linking_node, linking_to, linking, plan_linked, fewer_segments, finish_over, removed_by, unlinking_node, unlinking, plan_unlinked, removing_node, removing, plan_dir_removed, Moving, moved_onto_by, replacing_node, moving_onto, moved_within, moved_between, moving_in, moving_to, goes_through, renaming_to, renaming, plan_renamed}
 use Rattle.line_histories.proofs.Asking.{AsksOnly, asks_bind, asks_segments}
 
-module _ (P : Sector → Type 0) (inode : (i : ℕ) → P (InodeAt i)) (directory : (k part : ℕ) → part < 8 → P (DirectoryAt k part)) (segment : (k : ℕ) → P (SegmentAt k)) where
+module _ (P : Sector → Type 0) (inode : (i : ℕ) → P (InodeAt i)) (directory : (k part : ℕ) → part < 8 → P (DirectoryAt k part)) where
   -- ---- walks
 
   pub search_asks : (small : ℕ → ℕ) (test : Option StoredEntry → Bool) (n j : ℕ) → AsksOnly P (search small test j n)
@@ -60,12 +61,12 @@ module _ (P : Sector → Type 0) (inode : (i : ℕ) → P (InodeAt i)) (director
 
   -- ---- what ends a plan
 
-  pub over_asks : (ks : List ℕ) (f : Finish) → AsksOnly P (finish_over ks f)
-  over_asks ks f = asks_segments P segment ks (Got (Finishes f)) tt
+  pub over_asks : (ks : List ℕ) → ((k : ℕ) → Contains ks k → P (SegmentAt k)) → (f : Finish) → AsksOnly P (finish_over ks f)
+  over_asks ks segment f = asks_segments P ks segment (Got (Finishes f)) tt
 
-  module _ (h : Hand) where
+  module _ (h : Hand) (held : (k : ℕ) → Contains (keys_of h.held) k → P (SegmentAt k)) where
     pub held_asks : {A : Type 0} (p : Ask A) → AsksOnly P p → AsksOnly P (read_held h p)
-    held_asks p a = asks_segments P segment (keys_of h.held) p a
+    held_asks p a = asks_segments P (keys_of h.held) held p a
 
     finish_asks : (room : Room) (f : Finish) → AsksOnly P (finish_in h room f)
     finish_asks NoRoom f = tt
@@ -148,29 +149,12 @@ module _ (P : Sector → Type 0) (inode : (i : ℕ) → P (InodeAt i)) (director
     linked_asks path to = asks_bind P (walk path) (λ w. linking h to w.dirs w.spot) (walk_asks path) (λ w. linking_asks to w.dirs w.spot)
 
     -- ---- rename
-    replacing_asks : (moved : Moving) (i : ℕ) (x : StoredNode) (name : List ℕ) (q j : ℕ) (dirs : List ℕ) (o : Option StoredNode) → AsksOnly P (replacing_node moved i x name q j dirs o)
-    replacing_asks moved i x name q j dirs None = tt
-    replacing_asks moved i x name q j dirs (Some y) = go (y.kind == 2 && nat_lt 0 y.size)
-      where
-        go : (b : Bool) → AsksOnly P (if b then refused reply.NotEmpty (dirs ++ j ∷ []) else finish_over (fewer_segments j y) (moved_onto_by moved i x name q j y dirs))
-        go true = tt
-        go false = over_asks (fewer_segments j y) (moved_onto_by moved i x name q j y dirs)
-
-    moving_onto_asks : (moved : Moving) (i : ℕ) (x : StoredNode) (name : List ℕ) (q : ℕ) (e : StoredEntry) (dirs : List ℕ) → AsksOnly P (moving_onto moved i x name q e dirs)
-    moving_onto_asks moved i x name q e dirs = go (e.inode == moved.entry.inode) (moved.entry.kind == 2 && not (e.kind == 2)) (e.kind == 2 && not (moved.entry.kind == 2))
-      where
-        go : (a b c : Bool) → AsksOnly P (if a then refused reply.Ok dirs else (if b then refused reply.NotDir dirs else (if c then refused reply.IsDir dirs else ReadInode e.inode (replacing_node moved i x name q e.inode dirs))))
-        go true b c = tt
-        go false true c = tt
-        go false false true = tt
-        go false false false = (inode e.inode, replacing_asks moved i x name q e.inode dirs)
-
     moving_in_asks : (moved : Moving) (i : ℕ) (x : StoredNode) (name : List ℕ) (dirs : List ℕ) (room : Room) → AsksOnly P (moving_in h moved i x name dirs room)
     moving_in_asks moved i x name dirs NoRoom = tt
     moving_in_asks moved i x name dirs (Inside q) = tt
     moving_in_asks moved i x name dirs (InBlock k) = finish_asks (InBlock k) (moved_between moved i x name dirs (InBlock k))
 
-    moving_to_asks : (moved : Moving) (i : ℕ) (x : StoredNode) (name : List ℕ) (dirs : List ℕ) → AsksOnly P (moving_to h moved i x name dirs)
+    pub moving_to_asks : (moved : Moving) (i : ℕ) (x : StoredNode) (name : List ℕ) (dirs : List ℕ) → AsksOnly P (moving_to h moved i x name dirs)
     moving_to_asks moved i x name dirs = go (i == moved.dir) (is_full x)
       where
         go : (a b : Bool) → AsksOnly P (if a then Got (Finishes (moved_within moved name dirs)) else (if b then refused reply.DirFull dirs else bind (find_room h x) (moving_in h moved i x name dirs)))
@@ -178,69 +162,89 @@ module _ (P : Sector → Type 0) (inode : (i : ℕ) → P (InodeAt i)) (director
         go false true = tt
         go false false = asks_bind P (find_room h x) (moving_in h moved i x name dirs) (room_asks x) (moving_in_asks moved i x name dirs)
 
-    renaming_to_asks : (moved : Moving) (to_dirs dirs : List ℕ) (v : Spot) → AsksOnly P (renaming_to h moved to_dirs dirs v)
-    renaming_to_asks moved to_dirs dirs AtRoot = tt
-    renaming_to_asks moved to_dirs dirs (Lost r) = tt
-    renaming_to_asks moved to_dirs dirs (AtName i x name q e) = go (goes_through moved to_dirs)
-      where
-        go : (b : Bool) → AsksOnly P (if b then refused reply.Inval dirs else moving_onto moved i x name q e dirs)
-        go true = tt
-        go false = moving_onto_asks moved i x name q e dirs
-    renaming_to_asks moved to_dirs dirs (AtGap i x name) = go (goes_through moved to_dirs)
-      where
-        go : (b : Bool) → AsksOnly P (if b then refused reply.Inval dirs else moving_to h moved i x name dirs)
-        go true = tt
-        go false = moving_to_asks moved i x name dirs
+    module _ (segment : (k : ℕ) → P (SegmentAt k)) where
+      replacing_asks : (moved : Moving) (i : ℕ) (x : StoredNode) (name : List ℕ) (q j : ℕ) (dirs : List ℕ) (o : Option StoredNode) → AsksOnly P (replacing_node moved i x name q j dirs o)
+      replacing_asks moved i x name q j dirs None = tt
+      replacing_asks moved i x name q j dirs (Some y) = go (y.kind == 2 && nat_lt 0 y.size)
+        where
+          go : (b : Bool) → AsksOnly P (if b then refused reply.NotEmpty (dirs ++ j ∷ []) else finish_over (fewer_segments j y) (moved_onto_by moved i x name q j y dirs))
+          go true = tt
+          go false = over_asks (fewer_segments j y) (λ k c. segment k) (moved_onto_by moved i x name q j y dirs)
 
-    renaming_asks : (to : List (List ℕ)) (dirs : List ℕ) (v : Spot) → AsksOnly P (renaming h to dirs v)
-    renaming_asks to dirs AtRoot = tt
-    renaming_asks to dirs (Lost r) = tt
-    renaming_asks to dirs (AtGap i x name) = tt
-    renaming_asks to dirs (AtName i x name q e) =
-        let moved : Moving = record { dir = i; directory = x; slot = q; entry = e } in
-        asks_bind P (walk to) (λ w. renaming_to h moved w.dirs (dirs ++ w.dirs) w.spot) (walk_asks to) (λ w. renaming_to_asks moved w.dirs (dirs ++ w.dirs) w.spot)
+      moving_onto_asks : (moved : Moving) (i : ℕ) (x : StoredNode) (name : List ℕ) (q : ℕ) (e : StoredEntry) (dirs : List ℕ) → AsksOnly P (moving_onto moved i x name q e dirs)
+      moving_onto_asks moved i x name q e dirs = go (e.inode == moved.entry.inode) (moved.entry.kind == 2 && not (e.kind == 2)) (e.kind == 2 && not (moved.entry.kind == 2))
+        where
+          go : (a b c : Bool) → AsksOnly P (if a then refused reply.Ok dirs else (if b then refused reply.NotDir dirs else (if c then refused reply.IsDir dirs else ReadInode e.inode (replacing_node moved i x name q e.inode dirs))))
+          go true b c = tt
+          go false true c = tt
+          go false false true = tt
+          go false false false = (inode e.inode, replacing_asks moved i x name q e.inode dirs)
 
-    pub renamed_asks : (path to : List (List ℕ)) → AsksOnly P (plan_renamed h path to)
-    renamed_asks [] to = tt
-    renamed_asks (name ∷ names) [] = tt
-    renamed_asks (name ∷ names) (new ∷ news) =
-        asks_bind P (walk (name ∷ names)) (λ w. renaming h (new ∷ news) w.dirs w.spot) (walk_asks (name ∷ names)) (λ w. renaming_asks (new ∷ news) w.dirs w.spot)
+      renaming_to_asks : (moved : Moving) (to_dirs dirs : List ℕ) (v : Spot) → AsksOnly P (renaming_to h moved to_dirs dirs v)
+      renaming_to_asks moved to_dirs dirs AtRoot = tt
+      renaming_to_asks moved to_dirs dirs (Lost r) = tt
+      renaming_to_asks moved to_dirs dirs (AtName i x name q e) = go (goes_through moved to_dirs)
+        where
+          go : (b : Bool) → AsksOnly P (if b then refused reply.Inval dirs else moving_onto moved i x name q e dirs)
+          go true = tt
+          go false = moving_onto_asks moved i x name q e dirs
+      renaming_to_asks moved to_dirs dirs (AtGap i x name) = go (goes_through moved to_dirs)
+        where
+          go : (b : Bool) → AsksOnly P (if b then refused reply.Inval dirs else moving_to h moved i x name dirs)
+          go true = tt
+          go false = moving_to_asks moved i x name dirs
+
+      renaming_asks : (to : List (List ℕ)) (dirs : List ℕ) (v : Spot) → AsksOnly P (renaming h to dirs v)
+      renaming_asks to dirs AtRoot = tt
+      renaming_asks to dirs (Lost r) = tt
+      renaming_asks to dirs (AtGap i x name) = tt
+      renaming_asks to dirs (AtName i x name q e) =
+          let moved : Moving = record { dir = i; directory = x; slot = q; entry = e } in
+          asks_bind P (walk to) (λ w. renaming_to h moved w.dirs (dirs ++ w.dirs) w.spot) (walk_asks to) (λ w. renaming_to_asks moved w.dirs (dirs ++ w.dirs) w.spot)
+
+      pub renamed_asks : (path to : List (List ℕ)) → AsksOnly P (plan_renamed h path to)
+      renamed_asks [] to = tt
+      renamed_asks (name ∷ names) [] = tt
+      renamed_asks (name ∷ names) (new ∷ news) =
+          asks_bind P (walk (name ∷ names)) (λ w. renaming h (new ∷ news) w.dirs w.spot) (walk_asks (name ∷ names)) (λ w. renaming_asks (new ∷ news) w.dirs w.spot)
 
   -- ---- unlink, rmdir
-  unlinking_node_asks : (i : ℕ) (x : StoredNode) (q j : ℕ) (dirs : List ℕ) (o : Option StoredNode) → AsksOnly P (unlinking_node i x q j dirs o)
-  unlinking_node_asks i x q j dirs None = tt
-  unlinking_node_asks i x q j dirs (Some y) = over_asks (fewer_segments j y) (removed_by i x q j y dirs)
 
-  removing_node_asks : (i : ℕ) (x : StoredNode) (q j : ℕ) (dirs : List ℕ) (o : Option StoredNode) → AsksOnly P (removing_node i x q j dirs o)
-  removing_node_asks i x q j dirs None = tt
-  removing_node_asks i x q j dirs (Some y) = go (nat_lt 0 y.size)
-    where
-      go : (b : Bool) → AsksOnly P (if b then refused reply.NotEmpty (dirs ++ j ∷ []) else finish_over (fewer_segments j y) (removed_by i x q j y dirs))
-      go true = tt
-      go false = over_asks (fewer_segments j y) (removed_by i x q j y dirs)
+  module _ (segment : (k : ℕ) → P (SegmentAt k)) where
+    unlinking_node_asks : (i : ℕ) (x : StoredNode) (q j : ℕ) (dirs : List ℕ) (o : Option StoredNode) → AsksOnly P (unlinking_node i x q j dirs o)
+    unlinking_node_asks i x q j dirs None = tt
+    unlinking_node_asks i x q j dirs (Some y) = over_asks (fewer_segments j y) (λ k c. segment k) (removed_by i x q j y dirs)
 
-  unlinking_asks : (dirs : List ℕ) (v : Spot) → AsksOnly P (unlinking dirs v)
-  unlinking_asks dirs AtRoot = tt
-  unlinking_asks dirs (Lost r) = tt
-  unlinking_asks dirs (AtGap i x name) = tt
-  unlinking_asks dirs (AtName i x name q e) = go (e.kind == 2)
-    where
-      go : (b : Bool) → AsksOnly P (if b then refused reply.IsDir dirs else ReadInode e.inode (unlinking_node i x q e.inode dirs))
-      go true = tt
-      go false = (inode e.inode, unlinking_node_asks i x q e.inode dirs)
+    removing_node_asks : (i : ℕ) (x : StoredNode) (q j : ℕ) (dirs : List ℕ) (o : Option StoredNode) → AsksOnly P (removing_node i x q j dirs o)
+    removing_node_asks i x q j dirs None = tt
+    removing_node_asks i x q j dirs (Some y) = go (nat_lt 0 y.size)
+      where
+        go : (b : Bool) → AsksOnly P (if b then refused reply.NotEmpty (dirs ++ j ∷ []) else finish_over (fewer_segments j y) (removed_by i x q j y dirs))
+        go true = tt
+        go false = over_asks (fewer_segments j y) (λ k c. segment k) (removed_by i x q j y dirs)
 
-  pub unlinked_asks : (path : List (List ℕ)) → AsksOnly P (plan_unlinked path)
-  unlinked_asks path = asks_bind P (walk path) (λ w. unlinking w.dirs w.spot) (walk_asks path) (λ w. unlinking_asks w.dirs w.spot)
+    unlinking_asks : (dirs : List ℕ) (v : Spot) → AsksOnly P (unlinking dirs v)
+    unlinking_asks dirs AtRoot = tt
+    unlinking_asks dirs (Lost r) = tt
+    unlinking_asks dirs (AtGap i x name) = tt
+    unlinking_asks dirs (AtName i x name q e) = go (e.kind == 2)
+      where
+        go : (b : Bool) → AsksOnly P (if b then refused reply.IsDir dirs else ReadInode e.inode (unlinking_node i x q e.inode dirs))
+        go true = tt
+        go false = (inode e.inode, unlinking_node_asks i x q e.inode dirs)
 
-  removing_asks : (dirs : List ℕ) (v : Spot) → AsksOnly P (removing dirs v)
-  removing_asks dirs AtRoot = tt
-  removing_asks dirs (Lost r) = tt
-  removing_asks dirs (AtGap i x name) = tt
-  removing_asks dirs (AtName i x name q e) = go (e.kind == 2)
-    where
-      go : (b : Bool) → AsksOnly P (if b then ReadInode e.inode (removing_node i x q e.inode dirs) else refused reply.NotDir dirs)
-      go true = (inode e.inode, removing_node_asks i x q e.inode dirs)
-      go false = tt
+    pub unlinked_asks : (path : List (List ℕ)) → AsksOnly P (plan_unlinked path)
+    unlinked_asks path = asks_bind P (walk path) (λ w. unlinking w.dirs w.spot) (walk_asks path) (λ w. unlinking_asks w.dirs w.spot)
 
-  pub removed_asks : (path : List (List ℕ)) → AsksOnly P (plan_dir_removed path)
-  removed_asks path = asks_bind P (walk path) (λ w. removing w.dirs w.spot) (walk_asks path) (λ w. removing_asks w.dirs w.spot)
+    removing_asks : (dirs : List ℕ) (v : Spot) → AsksOnly P (removing dirs v)
+    removing_asks dirs AtRoot = tt
+    removing_asks dirs (Lost r) = tt
+    removing_asks dirs (AtGap i x name) = tt
+    removing_asks dirs (AtName i x name q e) = go (e.kind == 2)
+      where
+        go : (b : Bool) → AsksOnly P (if b then ReadInode e.inode (removing_node i x q e.inode dirs) else refused reply.NotDir dirs)
+        go true = (inode e.inode, removing_node_asks i x q e.inode dirs)
+        go false = tt
+
+    pub removed_asks : (path : List (List ℕ)) → AsksOnly P (plan_dir_removed path)
+    removed_asks path = asks_bind P (walk path) (λ w. removing w.dirs w.spot) (walk_asks path) (λ w. removing_asks w.dirs w.spot)

@@ -1,8 +1,9 @@
 -- Computations that ask only for sectors of some kind, whatever is said to them.
 use Rattle.std.proofs.Common.{ℕ, List, [], ◌∷◌, Option}
-use Rattle.std.specs.List.{AllByRecursion}
+use Rattle.std.specs.List.{AllByRecursion, Contains}
 use Rattle.disk_definitions.specs.Store.{Store, StoredNode, StoredEntry}
 use Rattle.disk_definitions.specs.Ask.{Sector, InodeAt, DirectoryAt, SegmentAt, BytesAt, LargeAt, Ask, Got, ReadInode, ReadDirectory, ReadSegment, ReadBytes, ReadLarge, bind, seven, part_of, looks, read_segments}
+use Rattle.plan_laws.proofs.Covering.{has_head, has_more}
 
 module _ (P : Sector → Type 0) where
   abbrev pub AsksOnly : {A : Type 0} → Ask A → Type 0
@@ -22,9 +23,9 @@ module _ (P : Sector → Type 0) where
   asks_bind (ReadBytes k part next) f h more = (h.0, λ said. asks_bind (next said) f (h.1 said) more)
   asks_bind (ReadLarge g part next) f h more = (h.0, λ said. asks_bind (next said) f (h.1 said) more)
 
-  pub asks_segments : ((k : ℕ) → P (SegmentAt k)) → {A : Type 0} (ks : List ℕ) (p : Ask A) → AsksOnly p → AsksOnly (read_segments ks p)
-  asks_segments segment [] p h = h
-  asks_segments segment (k ∷ ks) p h = (segment k, asks_segments segment ks p h)
+  pub asks_segments : {A : Type 0} (ks : List ℕ) → ((k : ℕ) → Contains ks k → P (SegmentAt k)) → (p : Ask A) → AsksOnly p → AsksOnly (read_segments ks p)
+  asks_segments [] segment p h = h
+  asks_segments (k ∷ ks) segment p h = (segment k (has_head k ks), asks_segments ks (λ j c. segment j (has_more k j ks c)) p h)
 
   -- so are all sectors that it looks at, over any disk
   pub asked : {A : Type 0} (p : Ask A) (s : Store) → AsksOnly p → AllByRecursion P (looks p s)

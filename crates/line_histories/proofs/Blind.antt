@@ -222,7 +222,7 @@ module _ (s : Store) (byte large_byte : ℕ → ℕ → ℕ) where
     spot_blind (Lost r) dirs = record { looked = refl; comes = refl }
 
     file_blind : (path : List (List ℕ)) → IsBlind (plan_of_file path next)
-    file_blind path = blind_bind (walk path) (λ w. at_target w refused (at_file next)) (walk_asks IsNoBytes (λ i. tt) (λ k part l. tt) (λ k. tt) path) (λ w. spot_blind w.spot w.dirs)
+    file_blind path = blind_bind (walk path) (λ w. at_target w refused (at_file next)) (walk_asks IsNoBytes (λ i. tt) (λ k part l. tt) path) (λ w. spot_blind w.spot w.dirs)
 
   pub write_blind : (h : Hand) (w : Writing) (path : List (List ℕ)) → IsBlind (plan_of_file path (writing h w))
   write_blind h w path = file_blind (writing h w) (writing_blind h w) path

@@ -8,6 +8,7 @@ use Rattle.frang_base.specs.declared.reply.Reply.TheVariants as reply
 use Rattle.tree_definitions.specs.declared.node.Node.TheVariants.{Dir, File, Link}
 use Rattle.tree_definitions.specs.Tree.{FileTree}
 use Rattle.disk_definitions.specs.Store.{Store, StoredNode}
+use Rattle.disk_definitions.specs.Store.Use.{Fresh}
 use Rattle.disk_definitions.specs.Edits.{Edit}
 use Rattle.disk_definitions.specs.Naming.{Naming}
 use Rattle.disk_definitions.specs.Ask.{Ask, ReadInode, run}
@@ -38,8 +39,8 @@ module _ (P : Finish → Edit → Type 0) (h : Hand) (s : Store) (n : Naming) (d
     spot_fine : (v : Spot) (dirs : List ℕ) → ((t : Target) → HasKind s t.inode t.kind → Leads v t → Ends P s (next t)) → SpotStands h s n disk dirs v → Ends P s (at_spot v dirs refused next)
     spot_fine AtRoot dirs each t = each (record { inode = 0; kind = 2; dirs = dirs }) disk.root (inl refl)
     spot_fine (AtName i x name q e) dirs each t = each (record { inode = e.inode; kind = e.kind; dirs = dirs }) t.2 (inr refl)
-    spot_fine (AtGap i x name) dirs each t = (true, tt)
-    spot_fine (Lost r) dirs each t = (true, tt)
+    spot_fine (AtGap i x name) dirs each t = (Fresh, tt)
+    spot_fine (Lost r) dirs each t = (Fresh, tt)
 
     led_fine : (path : List (List ℕ)) → ((t : Target) → HasKind s t.inode t.kind → Leads (run (walk path) s).spot t → Ends P s (next t)) → Ends P s (plan_of_node path next)
     led_fine path each = let w = run (walk path) s in subst (IsFinePlan P s) (sym (run-bind (walk path) (λ w. at_target w refused next) s)) (spot_fine w.spot w.dirs each (walk_stands h s n disk path).spot)
@@ -55,7 +56,7 @@ module _ (P : Finish → Edit → Type 0) (h : Hand) (s : Store) (n : Naming) (d
     where
       go : (b : Bool) → Ends P s (if b then next t else refused r t.dirs)
       go true = each t k
-      go false = (true, tt)
+      go false = (Fresh, tt)
 
   file_fine : (v : Spot) (next : ℕ → List ℕ → StoredNode → Ask Plan) → ((i : ℕ) (x : StoredNode) → s.inode i ≡ Some x → x.kind ≡ 1 → IsFileNode s x → spot_inode v ≡ Some i → (touched : List ℕ) → Ends P s (next i touched x)) → (t : Target) → HasKind s t.inode t.kind → Leads v t → Ends P s (at_file next t)
   file_fine v next each t k leads = go (nat_eq t.kind 2) refl (nat_eq t.kind 1) refl
@@ -64,8 +65,8 @@ module _ (P : Finish → Edit → Type 0) (h : Hand) (s : Store) (n : Naming) (d
       touched = t.dirs ++ t.inode ∷ []
 
       go : (a : Bool) → nat_eq t.kind 2 ≡ a → (b : Bool) → nat_eq t.kind 1 ≡ b → Ends P s (if a then refused reply.IsDir t.dirs else (if b then ReadInode t.inode (with_file (next t.inode touched) touched) else refused reply.Inval t.dirs))
-      go true p b q = (true, tt)
-      go false p false q = (true, tt)
+      go true p b q = (Fresh, tt)
+      go false p false q = (Fresh, tt)
       go false p true q =
           let one : t.kind ≡ 1 = grind (arith, nat_tests) in
           let file : k.node.kind ≡ 1 = subst (λ z. k.node.kind ≡ z) one k.kind_is in
@@ -75,10 +76,10 @@ module _ (P : Finish → Edit → Type 0) (h : Hand) (s : Store) (n : Naming) (d
 
   -- ---- plans that only look
   shown_fine : (said : StoredNode → Reply) (t : Target) → HasKind s t.inode t.kind → Ends P s (at_inode (λ touched x. refused (said x) touched) t)
-  shown_fine said = inode_fine (λ touched x. refused (said x) touched) (λ touched x. (true, tt))
+  shown_fine said = inode_fine (λ touched x. refused (said x) touched) (λ touched x. (Fresh, tt))
 
   listing_fine : (touched : List ℕ) (x : StoredNode) → Ends P s (listing touched x)
-  listing_fine touched x = subst (IsFinePlan P s) (sym (run-entries s x.small 0 (8 * x.blocks) (λ entries. refused (reply.Names (sorted_names entries)) touched))) ((true, tt))
+  listing_fine touched x = subst (IsFinePlan P s) (sym (run-entries s x.small 0 (8 * x.blocks) (λ entries. refused (reply.Names (sorted_names entries)) touched))) ((Fresh, tt))
 
   showing_fine : (off len i : ℕ) (touched : List ℕ) (x : StoredNode) → Ends P s (showing off len i touched x)
   showing_fine off len i touched x = go (nat_lt x.size off)
@@ -90,8 +91,8 @@ module _ (P : Finish → Edit → Type 0) (h : Hand) (s : Store) (n : Naming) (d
       next bytes = refused (reply.Shown (take shown (drop (off % 512) bytes))) touched
 
       go : (b : Bool) → Ends P s (if b then refused reply.BadOffset touched else read_sectors x (off / 512) (sectors_met off shown) next)
-      go true = (true, tt)
-      go false = subst (IsFinePlan P s) (sym (run-sectors s x (off / 512) (sectors_met off shown) next)) ((true, tt))
+      go true = (Fresh, tt)
+      go false = subst (IsFinePlan P s) (sym (run-sectors s x (off / 512) (sectors_met off shown) next)) ((Fresh, tt))
 
   -- ---- a file
   path_fine : (path : List (List ℕ)) (next : ℕ → List ℕ → StoredNode → Ask Plan)
@@ -145,10 +146,10 @@ module _ (h : Hand) (s : Store) (tree : FileTree) (n : Naming) (of : IsOfTree s 
   plan_fine (op.Readlink path) birth when =
       node_fine (IsPiece when (op.Readlink path) s) h s n disk (λ t. if t.kind == 3 then at_inode (λ touched x. refused (reply.Target x.target) touched) t else refused reply.Inval t.dirs)
       (kind_fine (IsPiece when (op.Readlink path) s) h s n disk (at_inode (λ touched x. refused (reply.Target x.target) touched)) 3 reply.Inval (shown_fine (IsPiece when (op.Readlink path) s) h s n disk (λ x. reply.Target x.target))) path
-  plan_fine op.Sync birth when = (true, tt)
-  plan_fine op.Mount birth when = (true, tt)
-  plan_fine op.Unmount birth when = (true, tt)
-  plan_fine op.Crash birth when = (true, tt)
-  plan_fine (op.CrashAt k) birth when = (true, tt)
-  plan_fine (op.CutAt k) birth when = (true, tt)
-  plan_fine op.Stall birth when = (true, tt)
+  plan_fine op.Sync birth when = (Fresh, tt)
+  plan_fine op.Mount birth when = (Fresh, tt)
+  plan_fine op.Unmount birth when = (Fresh, tt)
+  plan_fine op.Crash birth when = (Fresh, tt)
+  plan_fine (op.CrashAt k) birth when = (Fresh, tt)
+  plan_fine (op.CutAt k) birth when = (Fresh, tt)
+  plan_fine op.Stall birth when = (Fresh, tt)

@@ -9,7 +9,7 @@ use Rattle.std.proofs.lemmas.List.Elements.{Contains-append_right}
 use Rattle.frang_base.specs.declared.reply.Reply.TheVariants as reply
 use Rattle.frang_base.proofs.Basics.{put_same}
 use Rattle.tree_definitions.specs.Tree.{small_blocks_of}
-use Rattle.disk_definitions.specs.Store.{Store, StoredNode, Use, is_unused}
+use Rattle.disk_definitions.specs.Store.{Store, StoredNode, Use}
 use Rattle.disk_definitions.specs.Store.Use.{Fresh, Bytes}
 use Rattle.disk_definitions.specs.Naming.{Naming}
 use Rattle.disk_definitions.specs.Edits.{Edit, edited_all}
@@ -35,15 +35,15 @@ use Rattle.line_histories.proofs.Names.{IsFinePlan, Ends, none_ends}
 
 -- ---- blocks
 
-uses_fine : (P : Edit → Type 0) (s : Store) (es : List Edit) (b : Bool) (u : Use) (ks : List ℕ) → is_unused u ≡ b → AreFine P s es b (map (λ k. SetUse k u) ks)
+uses_fine : (P : Edit → Type 0) (s : Store) (es : List Edit) (b : Use) (u : Use) (ks : List ℕ) → u ≡ b → AreFine P s es b (map (λ k. SetUse k u) ks)
 uses_fine P s es b u [] e = tt
 uses_fine P s es b u (k ∷ ks) e = (e, uses_fine P s es b u ks e)
 
-cut_fine : (P : Edit → Type 0) (s : Store) (es : List Edit) (gs : List ℕ) → AreFine P s es true (map (λ g. SetLarge g false) gs)
+cut_fine : (P : Edit → Type 0) (s : Store) (es : List Edit) (gs : List ℕ) → AreFine P s es Fresh (map (λ g. SetLarge g false) gs)
 cut_fine P s es [] = tt
 cut_fine P s es (g ∷ gs) = (refl, cut_fine P s es gs)
 
-taken_fine : (P : Edit → Type 0) (s : Store) (es : List Edit) (o : Option ℕ) → AreFine P s es false (large_taken o)
+taken_fine : (P : Edit → Type 0) (s : Store) (es : List Edit) (o : Option ℕ) → AreFine P s es Bytes (large_taken o)
 taken_fine P s es None = tt
 taken_fine P s es (Some g) = (refl, tt)
 
@@ -62,7 +62,7 @@ module _ (P : Edit → Type 0) (w : Writing) (x y : StoredNode) (s : Store) wher
   abbrev Pieces : ℕ → ℕ → Type 0
   Pieces t m = (u : ℕ) → t ≤ u → u < t + m → P (set_sector y u (mixed w u (old_sector w x y s u)))
 
-  bytes_fine : (es : List Edit) (b : Bool) (m t : ℕ) → Pieces t m → AreFine P s es b (sector_edits w x y s t m)
+  bytes_fine : (es : List Edit) (b : Use) (m t : ℕ) → Pieces t m → AreFine P s es b (sector_edits w x y s t m)
   bytes_fine es b zero t each = tt
   bytes_fine es b (suc m) t each = go (nat_lt t 128) (mixed w t (old_sector w x y s t)) (each t (le_refl t) (omega arith)) (bytes_fine es b m (t + 1) (λ u lo hi. each u (omega arith) (omega arith)))
     where
@@ -108,7 +108,7 @@ module _ (P : Finish → Edit → Type 0) (h : Hand) (s : Store) (n : Naming) (d
     cutting_fine = go (nat_lt x.size len) refl
       where
         go : (b : Bool) → nat_lt x.size len ≡ b → Ends P s (if b then refused reply.BadOffset touched else finish_over (cut_segments x len) (cut_by when i touched x len))
-        go true q = (true, tt)
+        go true q = (Fresh, tt)
         go false q =
             let short : len ≤ x.size = grind (arith, nat_tests) in
             let gone = blocks_between x (small_blocks_of len) x.blocks in
@@ -117,9 +117,9 @@ module _ (P : Finish → Edit → Type 0) (h : Hand) (s : Store) (n : Naming) (d
             let f = cut_by when i touched x len in
             let es = f.edits in
             subst (IsFinePlan P s) (sym (run-segments (cut_segments x len) (Got (Finishes (cut_by when i touched x len))) s)) (
-              true,
-              both_fine (P f) s es true (blocks ++ larges) (file_dated i cut)
-                  (both_fine (P f) s es true blocks larges (uses_fine (P f) s es true Fresh gone refl) (cut_fine (P f) s es (large_cut x len))) (cut_filled es short, tt),
+              Fresh,
+              both_fine (P f) s es Fresh (blocks ++ larges) (file_dated i cut)
+                  (both_fine (P f) s es Fresh blocks larges (uses_fine (P f) s es Fresh Fresh gone refl) (cut_fine (P f) s es (large_cut x len))) (cut_filled es short, tt),
             )
 
   -- ---- write and fill
@@ -194,11 +194,11 @@ module _ (P : Finish → Edit → Type 0) (h : Hand) (s : Store) (n : Naming) (d
         in_fine : Ends P s (writing_in w i touched x picks o)
         in_fine =
             subst (IsFinePlan P s) (sym (run-writes w x y s (w.off / 512) (sectors_met w.off w.len) (λ bytes. Got (Finishes (written_by i y picks o touched bytes))))) (
-              false,
-              both_fine (P f) s es false (map (λ k. SetUse k Bytes) picks ++ large_taken o ++ file_dated i y) bytes
-                  (both_fine (P f) s es false (map (λ k. SetUse k Bytes) picks ++ large_taken o) (file_dated i y)
-                  (both_fine (P f) s es false (map (λ k. SetUse k Bytes) picks) (large_taken o) (uses_fine (P f) s es false Bytes picks refl) (taken_fine (P f) s es o)) (written_filled, tt))
-                  (bytes_fine (P f) w x y s es false (sectors_met w.off w.len) (w.off / 512) (λ u lo hi. made f y refl inode_in refl refl low u lo hi)),
+              Bytes,
+              both_fine (P f) s es Bytes (map (λ k. SetUse k Bytes) picks ++ large_taken o ++ file_dated i y) bytes
+                  (both_fine (P f) s es Bytes (map (λ k. SetUse k Bytes) picks ++ large_taken o) (file_dated i y)
+                  (both_fine (P f) s es Bytes (map (λ k. SetUse k Bytes) picks) (large_taken o) (uses_fine (P f) s es Bytes Bytes picks refl) (taken_fine (P f) s es o)) (written_filled, tt))
+                  (bytes_fine (P f) w x y s es Bytes (sectors_met w.off w.len) (w.off / 512) (λ u lo hi. made f y refl inode_in refl refl low u lo hi)),
             )
 
       module _ (o : Option ℕ) (takes : Takes o) where
@@ -222,8 +222,8 @@ module _ (P : Finish → Edit → Type 0) (h : Hand) (s : Store) (n : Naming) (d
       where
         go : (a : Bool) → nat_lt x.size w.off ≡ a → (b c : Bool) → (nat_lt 65536 (end_of w) && x.large == 0) ≡ c → Ends P s (if a then refused reply.BadOffset touched else (if b then refused reply.TooBig touched
             else (if c then read_held h (writing_large h w i touched x (picked_large h.held)) else writing_small h w i touched x None)))
-        go true q b c e = (true, tt)
-        go false q true c e = (true, tt)
+        go true q b c e = (Fresh, tt)
+        go false q true c e = (Fresh, tt)
         go false q false true e =
             let low : w.off ≤ x.size = grind (arith, nat_tests) in
             let z : x.large ≡ 0 = (let p : nat_eq x.large 0 ≡ true = (and_parts (nat_lt 65536 (end_of w)) (x.large == 0) e).1 in grind (arith, nat_tests)) in

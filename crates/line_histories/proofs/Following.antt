@@ -28,7 +28,7 @@ use Rattle.disk_definitions.specs.Held.{state_in}
 use Rattle.disk_definitions.specs.Picks.{is_in_state}
 use Rattle.disk_definitions.specs.Edits.{Edit}
 use Rattle.disk_definitions.specs.Edits.Edit.{SetInode, SetBit, SetUse, SetPlace, SetLarge, SetBytes, SetLargeBytes}
-use Rattle.disk_definitions.specs.Ask.{Sector, InodeAt, DirectoryAt, SegmentAt, BytesAt, LargeAt, number_of}
+use Rattle.disk_definitions.specs.Ask.{Sector, InodeAt, DirectoryAt, SegmentAt, BytesAt, LargeAt, number_of, run, looks}
 use Rattle.disk_definitions.specs.Meets.{IsOfTree, is_directory_use}
 use Rattle.disk_definitions.specs.Written.{byte_writes, freed_sectors}
 use Rattle.disk_definitions.specs.Covers.{cover_of}
@@ -38,7 +38,7 @@ use Rattle.plan_fit.proofs.Kept.{in_small, in_large}
 use Rattle.plan_fit.proofs.LaidOver.{Misses}
 use Rattle.plan_fit.proofs.RecordLaws.{NotTo, misses}
 use Rattle.disk_definitions.specs.Numbered.{sector_in, sector_at}
-use Rattle.line_histories.specs.LinePlans.{store_on, held_of, fill_by, becomes_directory, is_claimed, sector_plan}
+use Rattle.line_histories.specs.LinePlans.{store_on, store_showing, hand_on, outcome_by, held_of, fill_by, becomes_directory, is_claimed, sector_plan}
 use Rattle.line_histories.specs.Outcomes.{IsOfAPlan, fill_shape}
 use Rattle.line_histories.proofs.LinesSound.{lines_are_sound}
 use Rattle.line_histories.proofs.Outcomes.{outcomes_of_plans, makes_of_edits}
@@ -119,34 +119,38 @@ moved_is (Some new) lock = refl
 module _ (segments : ℕ) (when : ℕ → ℕ) (times : AreTimes when) (opening : ℕ → Block) (start : NumberedTree) (begins : StandsNumbered segments opening start) where
   -- ---- one operation more
   module _ (c : Commit) (h : List Item) (l : Legal (sector_plan segments when) opening (Done c ∷ h)) (d : Distinct MayTake start (Done c ∷ h)) where
-    abbrev disk : Sectors
+    abbrev pub disk : Sectors
     disk = logical opening h
 
-    abbrev state : NumberedTree
+    abbrev pub state : NumberedTree
     state = tree_of (performed_numbered when) start h
 
-    stands : StandsNumbered segments disk state
+    pub stands : StandsNumbered segments disk state
     stands = (both segments when times opening start begins h l.1 d.2).0
 
     may : MayTake c.op state
     may = (both segments when times opening start begins h l.1 d.2).1 c.op d.1 d.0
 
-    fin : IsOfAPlan plan_of_line segments when c.hint c.op c.asked disk (outcome_of c)
+    pub fin : IsOfAPlan plan_of_line segments when c.hint c.op c.asked disk (outcome_of c)
     fin = outcomes_of_plans plan_of_line segments when c.hint c.op c.asked disk (outcome_of c) l.0
 
-    abbrev edits : List Edit
+    abbrev pub outcome : Outcome
+    outcome = outcome_by segments disk c.hint (λ shown. run (plan_of_line (hand_on segments disk c.hint) c.op (when c.op) c.asked) (store_showing shown segments disk))
+        (looks (plan_of_line (hand_on segments disk c.hint) c.op (when c.op) c.asked) (store_on segments disk)) fin.comes.finish
+
+    abbrev pub edits : List Edit
     edits = fin.comes.finish.edits
 
-    abbrev next : Sectors
+    abbrev pub next : Sectors
     next = with_changes disk edits
 
-    step : IsStep segments disk next c.hint (shape_of state.tree) stands.stands.below.stands.naming edits
+    pub step : IsStep segments disk next c.hint (shape_of state.tree) stands.stands.below.stands.naming edits
     step = line_step segments disk state.tree stands.stands c.hint c.op (when c.op) c.asked fin.allowed may.new may.small (times c.op) fin.comes.finish fin.comes.is
 
-    store_is : store_after segments opening (Done c ∷ h) ≡ store_on segments next
+    pub store_is : store_after segments opening (Done c ∷ h) ≡ store_on segments next
     store_is = ap (λ (q : Outcome). store_on segments (λ s. forced (change_at q.changes s) (disk s))) fin.comes.outcome
 
-    few : segments ≤ 64
+    pub few : segments ≤ 64
     few = subst (λ k. k ≤ 64) stands.stands.as_many step.of.few
 
     -- ---- covers
@@ -191,7 +195,7 @@ module _ (segments : ℕ) (when : ℕ → ℕ) (times : AreTimes when) (opening 
     kind_on (BytesAt k part) inside = absurd inside
     kind_on (LargeAt g part) inside = refl
 
-    kinds_on : (logged : ℕ → Bool) → KindsFollow segments opening logged h → KindsFollow segments opening logged (Done c ∷ h)
+    pub kinds_on : (logged : ℕ → Bool) → KindsFollow segments opening logged h → KindsFollow segments opening logged (Done c ∷ h)
     kinds_on logged ih number x at =
         let claims : c.claims number ≡ is_claimed (held_of segments disk c.hint) edits (Some x) = ap (λ (q : Outcome). q.claims number) fin.comes.outcome ∙ ap (is_claimed (held_of segments disk c.hint) edits) at in
         ap₂ (λ a b. if a then true else b) claims (ih number x at) ∙ kind_on x (inside_of segments number x at) ∙ ap (λ s. is_versioned s x) (sym store_is)

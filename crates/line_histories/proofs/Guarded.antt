@@ -221,7 +221,7 @@ module _ (planner : Planner) (sound : IsSoundPlanner planner) (segments : ℕ) (
     abbrev o : Outcome
     o = outcome_by segments disk hint planned (looks p s) f
 
-    under : (x : Sector) → Contains (looks p s) x → Contains o.uses (cover_of naming x)
+    pub under : (x : Sector) → Contains (looks p s) x → Contains o.uses (cover_of naming x)
     under x c = ⊎_elim
         (λ held. held_used f.locks (map segment_lock hint) (cover_of naming x) (subst (λ v. PlanHolds v (cover_of naming x)) is held))
         (λ segment. at x segment)
@@ -235,17 +235,17 @@ module _ (planner : Planner) (sound : IsSoundPlanner planner) (segments : ℕ) (
         at (LargeAt g part) q = absurd q
 
     -- what is looked at is a part of what the disk has
-    inside : (x : Sector) → Contains (looks p s) x → IsInside segments x
+    pub inside : (x : Sector) → Contains (looks p s) x → IsInside segments x
     inside x c = one_inside segments (looks p s) x (subst (λ k. AreInside k (looks p s)) is_of.count (sound.inside op h s tree naming n (when n) is_of.of hand)) c
 
-    part : (x : Sector) → Contains (looks p s) x → IsPart x
+    pub part : (x : Sector) → Contains (looks p s) x → IsPart x
     part x c = sound.parts op h s n (when n) x c
 
     change : (m : ℕ) (c : Change) → change_at o.changes m ≡ Some c → IsChange disk f.edits m c
     change m c e = change_of_edit disk f.edits m c e
 
     -- a change is of a sector that was looked at
-    edit_seen : (m : ℕ) (c : Change) → change_at o.changes m ≡ Some c → (e : Edit) × Contains f.edits e × Contains (looks p s) (edited_at e) × (versioned (edited_at e) ≡ Some m) × (m ≡ number_of (edited_at e))
+    pub edit_seen : (m : ℕ) (c : Change) → change_at o.changes m ≡ Some c → (e : Edit) × Contains f.edits e × Contains (looks p s) (edited_at e) × (versioned (edited_at e) ≡ Some m) × (m ≡ number_of (edited_at e))
     edit_seen m c e =
         let r = (change m c e).edited in
         (r.edit, r.among, sound.looked op h s n (when n) f is r.edit r.among r.metadata, edited_versioned r.edit r.metadata ∙ ap Some r.here, sym r.here ∙ edit_number r.edit)

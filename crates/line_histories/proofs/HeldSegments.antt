@@ -1,5 +1,5 @@
 -- Held segments whose numbers ascend, as the segments of a hint.
-use Rattle.std.proofs.Common.{ℕ, ◌≡◌, ◌<◌, ◌⊎◌, ⊎_elim, Bool, true, false, if◌then◌else◌, Some, [], ◌∷◌, refl, ap, ap₂, ◌∙◌, subst}
+use Rattle.std.proofs.Common.{ℕ, ◌≡◌, ◌<◌, ⊎_elim, Bool, true, false, if◌then◌else◌, Some, [], ◌∷◌, refl, ap, ap₂, ◌∙◌, subst}
 use Rattle.std.specs.BTreeMap.{is_at}
 use Rattle.std.specs.List.{cons_option, AllByRecursion, Contains}
 use Rattle.std.specs.List.Sorted.{IsStrictlySortedBy}

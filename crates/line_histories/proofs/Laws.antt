@@ -7,7 +7,7 @@ use Rattle.frang_base.specs.Functions.{put}
 use Rattle.frang_base.proofs.Basics.{put_same, put_other}
 use Rattle.tree_definitions.specs.Perform.{Step, Goes, resolved}
 use Rattle.tree_definitions.specs.Tree.{FileTree}
-use Rattle.disk_definitions.specs.Store.{Store, StoredNode}
+use Rattle.disk_definitions.specs.Store.{Store, StoredNode, Use}
 use Rattle.disk_definitions.specs.Naming.{Naming}
 use Rattle.disk_definitions.specs.Edits.{Edit, edited, edited_all}
 use Rattle.disk_definitions.specs.Edits.Edit.{SetInode, SetBit, SetUse, SetPlace, SetLarge, SetBytes, SetLargeBytes}
@@ -46,14 +46,14 @@ inode_from (d ∷ es) s i y e = ⊎_elim (λ q. one d q) (λ r. inr (r.0, has_mo
 
 -- ---- a plan over a path without links
 
-piece_at : (P : Edit → Type 0) (s : Store) (es : List Edit) (frees : Bool) (d : Edit) → Fine P s es frees d → is_metadata d ≡ false → P d
-piece_at P s es frees (SetBytes k part bytes) f e = f
-piece_at P s es frees (SetLargeBytes g part bytes) f e = f
-piece_at P s es frees (SetInode i x dated) f e = absurd (cc)
-piece_at P s es frees (SetBit i b) f e = absurd (cc)
-piece_at P s es frees (SetUse k u) f e = absurd (cc)
-piece_at P s es frees (SetPlace k p x) f e = absurd (cc)
-piece_at P s es frees (SetLarge g b) f e = absurd (cc)
+piece_at : (P : Edit → Type 0) (s : Store) (es : List Edit) (state : Use) (d : Edit) → Fine P s es state d → is_metadata d ≡ false → P d
+piece_at P s es state (SetBytes k part bytes) f e = f
+piece_at P s es state (SetLargeBytes g part bytes) f e = f
+piece_at P s es state (SetInode i x dated) f e = absurd (cc)
+piece_at P s es state (SetBit i b) f e = absurd (cc)
+piece_at P s es state (SetUse k u) f e = absurd (cc)
+piece_at P s es state (SetPlace k p x) f e = absurd (cc)
+piece_at P s es state (SetLarge g b) f e = absurd (cc)
 
 module _ (o : Op) (h : Hand) (s : Store) (tree : FileTree) (n : Naming) (birth when : ℕ) (f : Finish) (of : IsOfTree s tree n) (hand : IsHandOf h s tree.segments) (e : run (plan_of h birth when o) s ≡ Finishes f) where
   pub fine : IsFinePlan (IsPiece when o s) s (Finishes f)

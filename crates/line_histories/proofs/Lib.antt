@@ -20,6 +20,7 @@ pub mod Outcomes
 pub mod Places
 pub mod Made
 pub mod Parts
+pub mod NearSegments
 pub mod Owned
 pub mod Fine
 pub mod Names
@@ -43,4 +44,6 @@ pub mod Coming
 pub mod Steps
 pub mod Given
 pub mod Filled
+pub mod Lying
 pub mod Following
+pub mod EditedKinds

@@ -25,7 +25,7 @@ use Rattle.plan_laws.proofs.Covering.{has_cases, not_in_none}
 use Rattle.disk_definitions.specs.Lines.{resolved, plan_of_line}
 use Rattle.line_laws.proofs.Running.{step_looks, looks_line}
 use Rattle.line_histories.specs.Files.{file_sector, HoldsBytes}
-use Rattle.line_histories.proofs.AllBlind.{no_inode, no_directory, no_segment, ReadsNoBytes, plan_plain}
+use Rattle.line_histories.proofs.AllBlind.{no_inode, no_directory, ReadsNoBytes, plan_plain}
 use Rattle.line_histories.proofs.AskedLines.{resolved_asks}
 use Rattle.line_histories.proofs.AskedNames.{walk_asks}
 use Rattle.line_histories.proofs.Asking.{asked}
@@ -186,7 +186,7 @@ module _ (s : Store) where
     file_in path =
         let w = run (walk path) s in
         subst AllIn (sym (looks-bind (walk path) (λ w. at_target w refused (at_file next)) s))
-        (both_in (looks (walk path) s) (looks (at_spot w.spot w.dirs refused (at_file next)) s) (plain_in (looks (walk path) s) (asked IsNoBytes (walk path) s (walk_asks IsNoBytes no_inode no_directory no_segment path)))
+        (both_in (looks (walk path) s) (looks (at_spot w.spot w.dirs refused (at_file next)) s) (plain_in (looks (walk path) s) (asked IsNoBytes (walk path) s (walk_asks IsNoBytes no_inode no_directory path)))
         (spot_in w.spot w.dirs))
 
   -- ---- operation by operation
@@ -228,7 +228,7 @@ module _ (s : Store) where
   line_in o h birth when =
       let w = run (resolved o) s in
       subst AllIn (sym (looks_line h s birth when o))
-      (both_in (looks (resolved o) s) (step_looks h s birth when w.step) (plain_in (looks (resolved o) s) (asked IsNoBytes (resolved o) s (resolved_asks IsNoBytes no_inode no_directory no_segment o))) (step_in h birth when w.step))
+      (both_in (looks (resolved o) s) (step_looks h s birth when w.step) (plain_in (looks (resolved o) s) (asked IsNoBytes (resolved o) s (resolved_asks IsNoBytes no_inode no_directory o))) (step_in h birth when w.step))
 
 pub lines_look : LinesLookAtBytesOfFiles
 lines_look o h s birth when x c = one_in s (looks (plan_of_line h birth when o) s) (line_in s o h birth when) x c

@@ -4,11 +4,12 @@ use Rattle.std.specs.Map.{keys_of}
 use Rattle.frang_base.specs.declared.reply.Reply.{Reply}
 use Rattle.frang_base.specs.declared.reply.Reply.TheVariants as reply
 use Rattle.tree_definitions.specs.declared.node.Node.{Node}
-use Rattle.disk_definitions.specs.Store.{Store, StoredNode, StoredEntry}
+use Rattle.disk_definitions.specs.Store.{Store, StoredNode, StoredEntry, Use}
+use Rattle.disk_definitions.specs.Store.Use.{Fresh, Entries}
 use Rattle.disk_definitions.specs.Naming.{Naming, kind_of}
 use Rattle.disk_definitions.specs.Picks.{picked_inode}
 use Rattle.disk_definitions.specs.Edits.{Edit}
-use Rattle.disk_definitions.specs.Changes.{new_node, take_entry, relink}
+use Rattle.disk_definitions.specs.Changes.{new_node, take_entry, relink, freed}
 use Rattle.disk_definitions.specs.ChangeLaws.{IsBare}
 use Rattle.disk_definitions.specs.Ask.{Ask, Got, ReadInode, ReadDirectory, bind, run}
 use Rattle.disk_definitions.specs.Walks.{Spot, walk}
@@ -27,7 +28,7 @@ use Rattle.line_histories.proofs.Fine.{AreFine, both_fine, take_fine, relink_fin
 abbrev pub IsFinePlan : (Finish → Edit → Type 0) → Store → Plan → Type 0
 IsFinePlan P s Lacks = Unit {0}
 IsFinePlan P s (Clears k locks) = Unit {0}
-IsFinePlan P s (Finishes f) = (frees : Bool) × AreFine (P f) s f.edits frees f.edits
+IsFinePlan P s (Finishes f) = (state : Use) × AreFine (P f) s f.edits state f.edits
 
 abbrev pub Ends : (Finish → Edit → Type 0) → Store → Ask Plan → Type 0
 Ends P s p = IsFinePlan P s (run p s)
@@ -37,7 +38,7 @@ module _ (P : Finish → Edit → Type 0) (h : Hand) (s : Store) (n : Naming) (d
   none_ends r touched = go h.all
     where
       go : (b : Bool) → Ends P s (none_left (record h { all = b }) r touched)
-      go true = (true, tt)
+      go true = (Fresh, tt)
       go false = tt
 
   pub room_ends : (room : Room) (f : Finish) → IsFinePlan P s (Finishes f) → Ends P s (finish_in h room f)
@@ -58,7 +59,7 @@ module _ (P : Finish → Edit → Type 0) (h : Hand) (s : Store) (n : Naming) (d
         made room =
             let entry : StoredEntry = record { name = name; inode = j; kind = kind_of node } in
             let f = made_by i x name birth node dirs j room in
-            room_ends room f (false, both_fine (P f) s f.edits false (new_node j birth node) (enter i x entry room) (new_fine (P f) s f.edits false j birth node bare) (enter_fine (P f) s f.edits i x entry room two))
+            room_ends room f (Entries, both_fine (P f) s f.edits Entries (new_node j birth node) (enter i x entry room) (new_fine (P f) s f.edits Entries j birth node bare) (enter_fine (P f) s f.edits i x entry room two))
 
         go : (room : Room) → Ends P s (making_in h i x name birth node dirs j room)
         go NoRoom = none_ends reply.NoDirBlock dirs
@@ -71,13 +72,13 @@ module _ (P : Finish → Edit → Type 0) (h : Hand) (s : Store) (n : Naming) (d
         subst (IsFinePlan P s) (sym (run-bind (find_room h x) (making_in h i x name birth node dirs j) s)) (making_in_fine i x two name dirs j (run (find_room h x) s))
 
     making_fine : (dirs : List ℕ) (v : Spot) → SpotStands h s n disk dirs v → Ends P s (making h birth node dirs v)
-    making_fine dirs AtRoot t = (true, tt)
-    making_fine dirs (Lost r) t = (true, tt)
-    making_fine dirs (AtName i x name q e) t = (true, tt)
+    making_fine dirs AtRoot t = (Fresh, tt)
+    making_fine dirs (Lost r) t = (Fresh, tt)
+    making_fine dirs (AtName i x name q e) t = (Fresh, tt)
     making_fine dirs (AtGap i x name) t = go (is_full x)
       where
         go : (b : Bool) → Ends P s (if b then refused reply.DirFull dirs else read_held h (making_with h i x name birth node dirs (picked_inode h.held)))
-        go true = (true, tt)
+        go true = (Fresh, tt)
         go false = subst (IsFinePlan P s) (sym (run-segments (keys_of h.held) (making_with h i x name birth node dirs (picked_inode h.held)) s)) (making_with_fine i x t.kind_is name dirs (picked_inode h.held))
 
     pub made_path_fine : (path : List (List ℕ)) → Ends P s (plan_made h birth node path)
@@ -91,7 +92,7 @@ module _ (P : Finish → Edit → Type 0) (h : Hand) (s : Store) (n : Naming) (d
     linked_fine room =
         let entry : StoredEntry = record { name = name; inode = j; kind = y.kind } in
         let f = linked_by i x name j y dirs room in
-        room_ends room f (false, both_fine (P f) s f.edits false (relink j y (y.links + 1)) (enter i x entry room) (relink_fine (P f) s f.edits false j y (y.links + 1) node) (enter_fine (P f) s f.edits i x entry room two))
+        room_ends room f (Entries, both_fine (P f) s f.edits Entries (relink j y (y.links + 1)) (enter i x entry room) (relink_fine (P f) s f.edits Entries j y (y.links + 1) node) (enter_fine (P f) s f.edits i x entry room two))
 
     linking_in_fine : (room : Room) → Ends P s (linking_in h i x name j y dirs room)
     linking_in_fine NoRoom = none_ends reply.NoDirBlock (dirs ++ j ∷ [])
@@ -102,24 +103,24 @@ module _ (P : Finish → Edit → Type 0) (h : Hand) (s : Store) (n : Naming) (d
     linking_node_fine = go (nat_le 1000 y.links) (is_full x)
       where
         go : (a b : Bool) → Ends P s (if a then refused reply.MLink (dirs ++ j ∷ []) else (if b then refused reply.DirFull (dirs ++ j ∷ []) else bind (find_room h x) (linking_in h i x name j y dirs)))
-        go true b = (true, tt)
-        go false true = (true, tt)
+        go true b = (Fresh, tt)
+        go false true = (Fresh, tt)
         go false false = subst (IsFinePlan P s) (sym (run-bind (find_room h x) (linking_in h i x name j y dirs) s)) (linking_in_fine (run (find_room h x) s))
 
   linking_to_fine : (j : ℕ) (y : StoredNode) (node : s.inode j ≡ Some y) (dirs : List ℕ) (v : Spot) → SpotStands h s n disk dirs v → Ends P s (linking_to h j dirs v)
-  linking_to_fine j y node dirs AtRoot t = (true, tt)
-  linking_to_fine j y node dirs (Lost r) t = (true, tt)
-  linking_to_fine j y node dirs (AtName i x name q e) t = (true, tt)
+  linking_to_fine j y node dirs AtRoot t = (Fresh, tt)
+  linking_to_fine j y node dirs (Lost r) t = (Fresh, tt)
+  linking_to_fine j y node dirs (AtName i x name q e) t = (Fresh, tt)
   linking_to_fine j y node dirs (AtGap i x name) t = subst (λ o. Ends P s (linking_node h i x name j dirs o)) (sym node) (linking_node_fine i x t.kind_is name j y node dirs)
 
   linking_fine : (to : List (List ℕ)) (dirs : List ℕ) (v : Spot) → SpotStands h s n disk dirs v → Ends P s (linking h to dirs v)
-  linking_fine to dirs AtRoot t = (true, tt)
-  linking_fine to dirs (Lost r) t = (true, tt)
-  linking_fine to dirs (AtGap i x name) t = (true, tt)
+  linking_fine to dirs AtRoot t = (Fresh, tt)
+  linking_fine to dirs (Lost r) t = (Fresh, tt)
+  linking_fine to dirs (AtGap i x name) t = (Fresh, tt)
   linking_fine to dirs (AtName i x name q e) t = go (e.kind == 2)
     where
       go : (b : Bool) → Ends P s (if b then refused reply.IsDir dirs else bind (walk to) (λ w. linking_to h e.inode (dirs ++ w.dirs) w.spot))
-      go true = (true, tt)
+      go true = (Fresh, tt)
       go false =
           let w = run (walk to) s in
           subst (IsFinePlan P s) (sym (run-bind (walk to) (λ w. linking_to h e.inode (dirs ++ w.dirs) w.spot) s))
@@ -136,23 +137,23 @@ module _ (P : Finish → Edit → Type 0) (h : Hand) (s : Store) (n : Naming) (d
     removed_fine =
         let f = removed_by i x q j y dirs in
         subst (IsFinePlan P s) (sym (run-segments (fewer_segments j y) (Got (Finishes f)) s))
-        (true, both_fine (P f) s f.edits true (take_entry i x q) (fewer j y) (take_fine (P f) s f.edits true i x q two) (fewer_fine (P f) s f.edits j y node))
+        (freed y.kind, both_fine (P f) s f.edits (freed y.kind) (take_entry i x q) (fewer j y) (take_fine (P f) s f.edits (freed y.kind) i x q two) (fewer_fine (P f) s f.edits j y node))
 
     removing_node_fine : Ends P s (removing_node i x q j dirs (Some y))
     removing_node_fine = go (nat_lt 0 y.size)
       where
         go : (b : Bool) → Ends P s (if b then refused reply.NotEmpty (dirs ++ j ∷ []) else finish_over (fewer_segments j y) (removed_by i x q j y dirs))
-        go true = (true, tt)
+        go true = (Fresh, tt)
         go false = removed_fine
 
   unlinking_fine : (dirs : List ℕ) (v : Spot) → SpotStands h s n disk dirs v → Ends P s (unlinking dirs v)
-  unlinking_fine dirs AtRoot t = (true, tt)
-  unlinking_fine dirs (Lost r) t = (true, tt)
-  unlinking_fine dirs (AtGap i x name) t = (true, tt)
+  unlinking_fine dirs AtRoot t = (Fresh, tt)
+  unlinking_fine dirs (Lost r) t = (Fresh, tt)
+  unlinking_fine dirs (AtGap i x name) t = (Fresh, tt)
   unlinking_fine dirs (AtName i x name q e) t = go (e.kind == 2)
     where
       go : (b : Bool) → Ends P s (if b then refused reply.IsDir dirs else ReadInode e.inode (unlinking_node i x q e.inode dirs))
-      go true = (true, tt)
+      go true = (Fresh, tt)
       go false = subst (λ o. Ends P s (unlinking_node i x q e.inode dirs o)) (sym t.2.is) (removed_fine i x t.0.kind_is q e.inode t.2.node t.2.is dirs)
 
   pub unlink_fine : (path : List (List ℕ)) → Ends P s (plan_unlinked path)
@@ -161,14 +162,14 @@ module _ (P : Finish → Edit → Type 0) (h : Hand) (s : Store) (n : Naming) (d
       subst (IsFinePlan P s) (sym (run-bind (walk path) (λ w. unlinking w.dirs w.spot) s)) (unlinking_fine w.dirs w.spot (walk_stands h s n disk path).spot)
 
   removing_fine : (dirs : List ℕ) (v : Spot) → SpotStands h s n disk dirs v → Ends P s (removing dirs v)
-  removing_fine dirs AtRoot t = (true, tt)
-  removing_fine dirs (Lost r) t = (true, tt)
-  removing_fine dirs (AtGap i x name) t = (true, tt)
+  removing_fine dirs AtRoot t = (Fresh, tt)
+  removing_fine dirs (Lost r) t = (Fresh, tt)
+  removing_fine dirs (AtGap i x name) t = (Fresh, tt)
   removing_fine dirs (AtName i x name q e) t = go (e.kind == 2)
     where
       go : (b : Bool) → Ends P s (if b then ReadInode e.inode (removing_node i x q e.inode dirs) else refused reply.NotDir dirs)
       go true = subst (λ o. Ends P s (removing_node i x q e.inode dirs o)) (sym t.2.is) (removing_node_fine i x t.0.kind_is q e.inode t.2.node t.2.is dirs)
-      go false = (true, tt)
+      go false = (Fresh, tt)
 
   pub rmdir_fine : (path : List (List ℕ)) → Ends P s (plan_dir_removed path)
   rmdir_fine path =

@@ -64,12 +64,11 @@ below_less (suc n) j c = ⊎_elim (λ i. let l : j < n = below_less n j i in ome
 -- ---- sectors of edits
 
 -- the sector of an edit, one of a small block as a directory's
-placed : Edit → Sector
+abbrev pub placed : Edit → Sector
 placed (SetBytes k part bytes) = DirectoryAt k part
 placed e = edited_at e
 
-placed_cover : (naming : Naming) (e : Edit) → cover_of naming (edited_at e) ≡ cover_of naming (placed e)
-unfolding placed
+pub placed_cover : (naming : Naming) (e : Edit) → cover_of naming (edited_at e) ≡ cover_of naming (placed e)
 placed_cover naming (SetInode i x dated) = refl
 placed_cover naming (SetBit i b) = refl
 placed_cover naming (SetUse k u) = refl
@@ -78,8 +77,7 @@ placed_cover naming (SetLarge g b) = refl
 placed_cover naming (SetBytes k part bytes) = refl
 placed_cover naming (SetLargeBytes g part bytes) = refl
 
-placed_here : (segments : ℕ) → segments ≤ 64 → (e : Edit) → IsFitEdit segments e → sector_at segments (edit_sector e) ≡ Some (placed e)
-unfolding placed
+pub placed_here : (segments : ℕ) → segments ≤ 64 → (e : Edit) → IsFitEdit segments e → sector_at segments (edit_sector e) ≡ Some (placed e)
 placed_here segments few (SetInode i x dated) fit = ap sector_in (region_found segments (region.Inode i) few (edit_in_range segments (SetInode i x dated) fit))
 placed_here segments few (SetBit i b) fit = ap sector_in (region_found segments (region.Segment (i / 64)) few (edit_in_range segments (SetBit i b) fit))
 placed_here segments few (SetUse k u) fit = ap sector_in (region_found segments (region.Segment (k / 1024)) few (edit_in_range segments (SetUse k u) fit))
@@ -89,7 +87,7 @@ placed_here segments few (SetBytes k part bytes) fit = ap sector_in (region_foun
 placed_here segments few (SetLargeBytes g part bytes) fit = ap sector_in (region_found segments (region.Large g part) few (edit_in_range segments (SetLargeBytes g part bytes) fit))
 
 -- a write of bytes is of the sector of its edit
-write_of : (e : Edit) (number : ℕ) (bytes : List ℕ) → byte_write e ≡ Some (number, bytes) → edit_sector e ≡ number
+pub write_of : (e : Edit) (number : ℕ) (bytes : List ℕ) → byte_write e ≡ Some (number, bytes) → edit_sector e ≡ number
 write_of e number bytes q = go (edit_sector e, edited_block [] 0 e) (is_metadata e) q
   where
     go : (v : ℕ × List ℕ) (b : Bool) → (if b then None else Some v) ≡ Some (number, bytes) → v.0 ≡ number

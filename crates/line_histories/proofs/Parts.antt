@@ -33,24 +33,24 @@ a_large : (g part : ℕ) → IsPart (LargeAt g part)
 a_large g part = tt
 
 write_parts : (h : Hand) (w : Writing) (path : List (List ℕ)) → AsksOnly IsPart (plan_of_file path (writing h w))
-write_parts h w path = file_asks IsPart an_inode a_directory a_segment (writing h w) (λ i touched x. writing_asks IsPart an_inode a_directory a_segment a_small a_large h w i touched x) path
+write_parts h w path = file_asks IsPart an_inode a_directory (writing h w) (λ i touched x. writing_asks IsPart an_inode a_directory a_small a_large h (λ k c. a_segment k) w i touched x) path
 
 plan_parts : (o : Op) (h : Hand) (birth when : ℕ) → AsksOnly IsPart (plan_of h birth when o)
-plan_parts (op.Create path) h birth when = made_asks IsPart an_inode a_directory a_segment h birth (File [] 1 0) path
-plan_parts (op.Mkdir path) h birth when = made_asks IsPart an_inode a_directory a_segment h birth (Dir [] 0) path
-plan_parts (op.Symlink path target) h birth when = made_asks IsPart an_inode a_directory a_segment h birth (Link target 1) path
-plan_parts (op.Link path to) h birth when = linked_asks IsPart an_inode a_directory a_segment h path to
+plan_parts (op.Create path) h birth when = made_asks IsPart an_inode a_directory h (λ k c. a_segment k) birth (File [] 1 0) path
+plan_parts (op.Mkdir path) h birth when = made_asks IsPart an_inode a_directory h (λ k c. a_segment k) birth (Dir [] 0) path
+plan_parts (op.Symlink path target) h birth when = made_asks IsPart an_inode a_directory h (λ k c. a_segment k) birth (Link target 1) path
+plan_parts (op.Link path to) h birth when = linked_asks IsPart an_inode a_directory h (λ k c. a_segment k) path to
 plan_parts (op.Unlink path) h birth when = unlinked_asks IsPart an_inode a_directory a_segment path
 plan_parts (op.Rmdir path) h birth when = removed_asks IsPart an_inode a_directory a_segment path
-plan_parts (op.Rename path to) h birth when = renamed_asks IsPart an_inode a_directory a_segment h path to
+plan_parts (op.Rename path to) h birth when = renamed_asks IsPart an_inode a_directory h (λ k c. a_segment k) a_segment path to
 plan_parts (op.Write path off bytes) h birth when = write_parts h (record { off = off; len = length bytes; when = when; byte = λ j. slice_index bytes (j - off) }) path
 plan_parts (op.Fill path off len value) h birth when = write_parts h (record { off = off; len = len; when = when; byte = λ j. value }) path
-plan_parts (op.Truncate path len) h birth when = file_asks IsPart an_inode a_directory a_segment (cutting when len) (cutting_asks IsPart an_inode a_directory a_segment when len) path
-plan_parts (op.Read path off len) h birth when = file_asks IsPart an_inode a_directory a_segment (showing off len) (showing_asks IsPart an_inode a_directory a_segment a_small a_large off len) path
-plan_parts (op.Stat path) h birth when = described_asks IsPart an_inode a_directory a_segment path
-plan_parts (op.List path) h birth when = listed_asks IsPart an_inode a_directory a_segment path
-plan_parts (op.Readlink path) h birth when = target_asks IsPart an_inode a_directory a_segment path
-plan_parts (op.Time path) h birth when = timed_asks IsPart an_inode a_directory a_segment path
+plan_parts (op.Truncate path len) h birth when = file_asks IsPart an_inode a_directory (cutting when len) (cutting_asks IsPart an_inode a_directory a_segment when len) path
+plan_parts (op.Read path off len) h birth when = file_asks IsPart an_inode a_directory (showing off len) (showing_asks IsPart an_inode a_directory a_small a_large off len) path
+plan_parts (op.Stat path) h birth when = described_asks IsPart an_inode a_directory path
+plan_parts (op.List path) h birth when = listed_asks IsPart an_inode a_directory path
+plan_parts (op.Readlink path) h birth when = target_asks IsPart an_inode a_directory path
+plan_parts (op.Time path) h birth when = timed_asks IsPart an_inode a_directory path
 plan_parts op.Sync h birth when = tt
 plan_parts op.Mount h birth when = tt
 plan_parts op.Unmount h birth when = tt
@@ -65,7 +65,7 @@ step_parts h birth when trail (Stops r) = tt
 
 line_parts : (o : Op) (h : Hand) (birth when : ℕ) → AsksOnly IsPart (plan_of_line h birth when o)
 line_parts o h birth when =
-    asks_bind IsPart (resolved o) (λ w. plan_step h birth when w.trail w.step) (resolved_asks IsPart an_inode a_directory a_segment o) (λ w. step_parts h birth when w.trail w.step)
+    asks_bind IsPart (resolved o) (λ w. plan_step h birth when w.trail w.step) (resolved_asks IsPart an_inode a_directory o) (λ w. step_parts h birth when w.trail w.step)
 
 one_of : (P : Sector → Type 0) (xs : List Sector) (x : Sector) → AllByRecursion P xs → Contains xs x → P x
 one_of P [] x a c = absurd (not_in_none x c)

@@ -38,7 +38,7 @@ use Rattle.line_laws.specs.Stores.{with_bytes}
 use Rattle.disk_definitions.specs.Lines.{resolved, with_trail, plan_step, plan_of_line}
 use Rattle.line_histories.specs.LinePlans.{edits_in}
 use Rattle.line_histories.specs.Places.{SameBytesAt, LinesWriteInPlace}
-use Rattle.line_histories.proofs.AllBlind.{no_inode, no_directory, no_segment, plan_plain}
+use Rattle.line_histories.proofs.AllBlind.{no_inode, no_directory, plan_plain}
 use Rattle.line_histories.proofs.Asking.{AsksOnly}
 use Rattle.line_histories.proofs.AskedNames.{walk_asks}
 use Rattle.line_histories.proofs.AskedLines.{resolved_asks}
@@ -261,7 +261,7 @@ module _ (base : Store) (tree : FileTree) (naming : Naming) (of : IsOfTree base 
     spot_is (Lost r) dirs = refl
 
     file_is : (path : List (List ℕ)) → IsSame (plan_of_file path next)
-    file_is path = bind_is (walk path) (λ w. at_target w refused (at_file next)) (walk_asks IsNoBytes no_inode no_directory no_segment path) (λ w. spot_is w.spot w.dirs)
+    file_is path = bind_is (walk path) (λ w. at_target w refused (at_file next)) (walk_asks IsNoBytes no_inode no_directory path) (λ w. spot_is w.spot w.dirs)
 
   showing_is : (off len i : ℕ) (touched : List ℕ) (x : StoredNode) → IsSame (showing off len i touched x)
   showing_is off len i touched x = go (nat_lt x.size off)
@@ -321,7 +321,7 @@ module _ (base : Store) (tree : FileTree) (naming : Naming) (of : IsOfTree base 
   step_is h birth when trail (Stops r) = refl
 
   line_is : (o : Op) (h : Hand) (birth when : ℕ) → IsSame (plan_of_line h birth when o)
-  line_is o h birth when = bind_is (resolved o) (λ w. plan_step h birth when w.trail w.step) (resolved_asks IsNoBytes no_inode no_directory no_segment o) (λ w. step_is h birth when w.trail w.step)
+  line_is o h birth when = bind_is (resolved o) (λ w. plan_step h birth when w.trail w.step) (resolved_asks IsNoBytes no_inode no_directory o) (λ w. step_is h birth when w.trail w.step)
 
 pub lines_write_in_place : LinesWriteInPlace
 lines_write_in_place o h base tree naming birth when byte large_byte other large_other number of same = line_is base tree naming of byte large_byte other large_other number same o h birth when

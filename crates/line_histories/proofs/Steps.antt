@@ -77,6 +77,7 @@ pub record IsStep (segments : ℕ) (disk next : Sectors) (hint : List ℕ) (tree
   pub fit : AreFit segments (store_on segments next) edits
   pub stay : (k : ℕ) → is_directory_use ((store_on segments disk).use_of k) ≡ true → is_directory_use ((store_on segments next).use_of k) ≡ true
   pub filled : (x : Sector) → HoldsBytes (store_on segments next) x → IsWritten edits x ⊎ HoldsBytes (store_on segments disk) x
+  pub small_fresh : (k : ℕ) → Contains edits (SetUse k Fresh) → (store_on segments next).use_of k ≡ Fresh
   pub small_back : (k : ℕ) → Contains edits (SetUse k Fresh) → is_unused ((store_on segments next).use_of k) ≡ true
   pub large_back : (g : ℕ) → Contains edits (SetLarge g false) → (store_on segments next).large_bit g ≡ false
   pub come : (k : ℕ) → is_directory_use ((store_on segments next).use_of k) ≡ true →
@@ -139,7 +140,8 @@ module _ (disk : Sectors) (tree : FileTree) (stands : StandsForShape tree.segmen
     fit = fit_too (edited_all s f.edits) (store_on segments next) inode bit uses larges segments f.edits
         (fit_next disk tree stands h at (hand_clear segments disk tree stands hint) birth when o may new small_birth small_time f is).edits;
     filled = λ x holds. line_filled x (record { inode = holds.inode; node = holds.node; is = sym (inode holds.inode) ∙ holds.is; kind = holds.kind; index = holds.index; below = holds.below; here = holds.here });
-    small_back = λ k c. ap is_unused (uses k) ∙ line_free.small k c;
+    small_fresh = λ k c. uses k ∙ line_free.small k c;
+    small_back = λ k c. ap is_unused (uses k ∙ line_free.small k c);
     large_back = λ g c. larges g ∙ line_free.large g c;
     stay = step_stays;
     come = step_comes;

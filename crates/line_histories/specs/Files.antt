@@ -1,8 +1,8 @@
 -- The sectors that hold the bytes of files below their sizes, and what the edits of a finished line make of them.
-use Rattle.std.specs.Prelude.{◌≡◌, ◌<◌, ◌⊎◌, ℕ, ◌-◌, ◌*◌, ◌/◌, ◌%◌, true, false, nat_lt, if◌then◌else◌, Some, List}
+use Rattle.std.specs.Prelude.{◌≡◌, ◌<◌, ◌⊎◌, ℕ, ◌-◌, ◌*◌, ◌/◌, ◌%◌, false, nat_lt, if◌then◌else◌, Some, List}
 use Rattle.std.specs.List.{Contains}
 use Rattle.frang_base.specs.declared.limits.TheConstants.{KIND_FILE, SECTOR_BYTES, SMALL_BLOCK_SECTORS, SMALL_SECTORS_MAX}
-use Rattle.disk_definitions.specs.Store.{Store, StoredNode, is_unused}
+use Rattle.disk_definitions.specs.Store.{Store, StoredNode}
 use Rattle.disk_definitions.specs.Store.Use.{Fresh}
 use Rattle.disk_definitions.specs.Naming.{Naming}
 use Rattle.disk_definitions.specs.Edits.{Edit, edited_all}
@@ -45,9 +45,9 @@ LeavesFilled store naming finish =
 abbrev pub LinesLeaveFilled : Type 0
 LinesLeaveFilled = OfEachFinish plan_of_line LeavesFilled
 
--- a block of file bytes that the edits give back is in no use after them
+-- a block of file bytes that the edits give back is in no use after them, and isn't one that was a directory's
 pub record GivesBackFree (store : Store) (naming : Naming) (finish : Finish) : Type 0 where
-  pub small : (block : ℕ) → Contains finish.edits (SetUse block Fresh) → is_unused ((edited_all store finish.edits).use_of block) ≡ true
+  pub small : (block : ℕ) → Contains finish.edits (SetUse block Fresh) → (edited_all store finish.edits).use_of block ≡ Fresh
   pub large : (segment : ℕ) → Contains finish.edits (SetLarge segment false) → (edited_all store finish.edits).large_bit segment ≡ false
 
 abbrev pub LinesGiveBackFree : Type 0

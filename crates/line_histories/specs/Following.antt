@@ -1,11 +1,12 @@
 -- What the sectors with versions say after a history, and what the history says: which lock covers each sector, which sectors have versions, and which
 -- sectors of bytes are free or were written.
-use Rattle.std.specs.Prelude.{ℕ, ◌≡◌, Bool, true, false, Option, Some, List}
+use Rattle.std.specs.Prelude.{ℕ, ◌≡◌, Bool, true, false, Option, Some, List, ◌∷◌}
 use Rattle.frang_base.specs.declared.lock.LockId.{LockId}
 use Rattle.tree_definitions.specs.Tree.{FileTree}
 use Rattle.sector_bytes.specs.Blocks.{Block}
 use Rattle.sector_world.specs.HistoryBytes.{is_free}
-use Rattle.sector_world.specs.Histories.{Item, logical, is_logged}
+use Rattle.sector_world.specs.Histories.{Commit, Item, logical, is_logged, Changes, Writes}
+use Rattle.sector_world.specs.Histories.Item.{Done}
 use Rattle.sector_world.specs.Seen as seen
 use Rattle.disk_definitions.specs.Naming.{Naming}
 use Rattle.disk_definitions.specs.Store.{Store}
@@ -39,6 +40,11 @@ is_versioned store (LargeAt large part) = false
 abbrev pub KindsFollow : ℕ → (ℕ → Block) → (ℕ → Bool) → List Item → Type 0
 KindsFollow segments opening logged h =
     (number : ℕ) (sector : Sector) → sector_at segments number ≡ Some sector → is_logged logged h number ≡ is_versioned (store_after segments opening h) sector
+
+-- what an operation changes has a version after it, and what it writes or frees as bytes has none
+pub record KeepsKinds (logged : ℕ → Bool) (h : List Item) (c : Commit) : Type 0 where
+  pub named : (number : ℕ) → Changes number c → is_logged logged (Done c ∷ h) number ≡ true
+  pub plain : (number : ℕ) → Writes number c → is_logged logged (Done c ∷ h) number ≡ false
 
 -- a sector of a block that no node has and that never was a directory's
 abbrev pub IsUnused : Store → Sector → Type 0

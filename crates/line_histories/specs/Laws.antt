@@ -1,12 +1,13 @@
 -- Histories of lines are of one file tree.
-use Rattle.std.specs.Prelude.{ℕ, ◌≡◌, Bool, true, Option, Some, List, []}
+use Rattle.std.specs.Prelude.{ℕ, ◌≡◌, Bool, true, Option, Some, List, [], ◌∷◌}
 use Rattle.frang_base.specs.declared.lock.LockId.{LockId}
 use Rattle.frang_base.specs.declared.op.Op.{Op}
 use Rattle.tree_definitions.specs.Numbers.{below}
 use Rattle.tree_definitions.specs.Tree.{FileTree}
 use Rattle.sector_bytes.specs.Blocks.{Block}
-use Rattle.sector_world.specs.Histories.{Item, logical, settled, Each}
-use Rattle.sector_world.specs.Plans.{Outcome, Legal, IsByPlan}
+use Rattle.sector_world.specs.Histories.{Commit, Item, logical, settled, Each}
+use Rattle.sector_world.specs.Histories.Item.{Done}
+use Rattle.sector_world.specs.Plans.{Outcome, Legal, IsByPlan, made_of}
 use Rattle.sector_world.specs.World.{World, start}
 use Rattle.sector_world.specs.Steps.{Event, Run}
 use Rattle.sector_world.specs.Claims.{left}
@@ -14,7 +15,7 @@ use Rattle.sector_world.specs.Kinds.{Good}
 use Rattle.sector_world.specs.Planned.{ArePlanned, IsLegal}
 use Rattle.sector_world.specs.Trees.{MeetsTree, AreNew, Distinct, Answers, Stand, tree_of, first_disk}
 use Rattle.line_histories.specs.LinePlans.{may_be_planned, sector_plan}
-use Rattle.line_histories.specs.Following.{Follows}
+use Rattle.line_histories.specs.Following.{Follows, KindsFollow, KeepsKinds}
 use Rattle.line_histories.specs.Trees.{performed, AreTimes, MayNumber, NumberedTree, performed_numbered, MayTake}
 use Rattle.line_histories.specs.Standing.{StandsForShape, StandsNumbered}
 
@@ -79,3 +80,11 @@ AllFollowInWorlds =
     StandsNumbered segments w.opening (record { tree = first_tree; numbers = numbers }) → IsLegal (sector_plan segments when) w →
     Distinct (MayNumber numbers) first_tree (settled w.history) → Good w → Follows segments w.opening w.home w.logged w.first [] →
     Follows segments w.opening w.home w.logged w.first (settled w.history) × Follows segments w.opening w.home w.logged w.first (left w w.servers)
+
+-- behind a history that says the kinds of sectors, what a line changes has a version, and what it writes or frees as its plan says has none
+abbrev pub LinesKeepKinds : Type 0
+LinesKeepKinds =
+    (segments : ℕ) (when : ℕ → ℕ) (opening : ℕ → Block) (first_tree : FileTree) (numbers : List ℕ) (h : List Item) (c : Commit) (logged : ℕ → Bool) → AreTimes when →
+    StandsNumbered segments opening (record { tree = first_tree; numbers = numbers }) → Legal (sector_plan segments when) opening (Done c ∷ h) →
+    Distinct (MayNumber numbers) first_tree (Done c ∷ h) → ((number : ℕ) → c.writes number ≡ made_of (c.makes number) (c.shown number)) →
+    KindsFollow segments opening logged h → KeepsKinds logged h c

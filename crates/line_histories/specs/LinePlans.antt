@@ -31,7 +31,7 @@ use Rattle.disk_definitions.specs.Plans.{Hand, Lock, Plan, Finish}
 use Rattle.disk_definitions.specs.Plans.Plan.{Lacks, Clears, Finishes}
 use Rattle.disk_definitions.specs.Meets.{is_directory_use}
 use Rattle.disk_definitions.specs.Written.{byte_writes, changes_of, freed_sectors}
-use Rattle.disk_definitions.specs.Moves.{first_said, use_said, moved_by}
+use Rattle.disk_definitions.specs.Moves.{first_said, use_said}
 use Rattle.disk_definitions.specs.Numbered.{sector_at, moves_of}
 use Rattle.plan_laws.specs.Plans.{Planner}
 use Rattle.disk_definitions.specs.Lines.{plan_of_line}

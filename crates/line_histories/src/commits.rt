@@ -6,7 +6,7 @@
 ghost use Rattle.line_histories.specs.Planners.{LinesAreSound};
 ghost use Rattle.line_histories.specs.Done.{DoneIsOutcome, LineDoneIsOutcome};
 ghost use Rattle.line_histories.specs.Guards.{SoundPlansAreFramed, LinePlansAreFramed, SoundPlansKeepGuards, LinePlansKeepGuards};
-ghost use Rattle.line_histories.specs.Owned.{SoundPlansOwn, LinePlansOwn};
+ghost use Rattle.line_histories.specs.Owned.{SoundPlansOwn, LinePlansOwn, LinePlansLookWhereTheyLie};
 ghost use Rattle.line_histories.specs.Places.{LinesWriteInPlace, LineDoneIsMade};
 ghost use Rattle.line_histories.specs.Outcomes.{TestSaysWhatIsAllowed, OutcomesAreOfPlans, MakesAreOfEdits};
 
@@ -59,4 +59,10 @@ pub fn lines_write_in_place()
 pub fn outcomes_own_what_they_write()
     ensures own { SoundPlansOwn }
     ensures lines { LinePlansOwn }
+{}
+
+/// Over the whole disk of a tree, each sector that the outcome of a line looks at or changes, and each sector of bytes that it reads, lies in its region of
+/// the disk and was under a lock that the outcome uses.
+pub fn lines_look_where_they_lie()
+    ensures { LinePlansLookWhereTheyLie }
 {}

@@ -14,7 +14,7 @@ pub fn files_stay_filled_through_lines()
     ensures filled { LinesLeaveFilled }
 {}
 
-/// Over the disk of a tree, a block that a finished line gives back is in no use after it.
+/// Over the disk of a tree, a block of file bytes that a finished line gives back is in no use after it, and counts as one that was never a directory's.
 pub fn what_lines_give_back_is_free()
     ensures free { LinesGiveBackFree }
 {}

@@ -2,7 +2,7 @@
 //! recoveries removed operations. Each law is the contract of a public function with an empty body. It stands on the plans of lines as plans over the
 //! sectors, on the laws of shapes, and on the theorem on sectors.
 
-ghost use Rattle.line_histories.specs.Laws.{LinesMeetTheTree, LinesComeToOutcomes, HistoriesAreOfOneTree, WorldsAreOfOneTree, RunsAreOfOneTree, AllFollow, AllFollowInWorlds};
+ghost use Rattle.line_histories.specs.Laws.{LinesMeetTheTree, LinesComeToOutcomes, HistoriesAreOfOneTree, WorldsAreOfOneTree, RunsAreOfOneTree, AllFollow, AllFollowInWorlds, LinesKeepKinds};
 
 /// Over sectors that stand for the shape of a file tree, the plan of a line with a new number answers as the tree does when it performs the line, bytes
 /// aside, and its changes lead to sectors that stand for the shape of the tree after it: the premise on trees of the theorem on sectors. With all segments
@@ -28,4 +28,11 @@ pub fn histories_are_of_one_tree()
 pub fn covers_kinds_and_free_sectors_follow()
     ensures histories { AllFollow }
     ensures worlds { AllFollowInWorlds }
+{}
+
+/// Along a legal history of lines, each sector that a line changes has a version after it, and each that it writes or frees as bytes has none: what is
+/// changed is a segment's, an inode's, or a part of a block that is a directory's then; file bytes go into blocks in use for them, and what is given
+/// back counts as never a directory's.
+pub fn lines_keep_kinds()
+    ensures { LinesKeepKinds }
 {}

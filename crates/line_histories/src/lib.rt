@@ -13,8 +13,9 @@ mod fills;
 mod histories;
 
 pub use commits::{
-    finished_lines_are_outcomes, line_plans_are_sound, lines_write_in_place, outcomes_are_of_plans,
-    outcomes_own_what_they_write, plans_over_sectors_are_framed, plans_over_sectors_keep_guards,
+    finished_lines_are_outcomes, line_plans_are_sound, lines_look_where_they_lie,
+    lines_write_in_place, outcomes_are_of_plans, outcomes_own_what_they_write,
+    plans_over_sectors_are_framed, plans_over_sectors_keep_guards,
 };
 pub use fills::{
     files_stay_filled_through_lines, lines_keep_or_write_sectors_of_files,
@@ -22,5 +23,6 @@ pub use fills::{
     parts_stay_or_are_written, what_lines_give_back_is_free,
 };
 pub use histories::{
-    covers_kinds_and_free_sectors_follow, histories_are_of_one_tree, lines_meet_the_tree,
+    covers_kinds_and_free_sectors_follow, histories_are_of_one_tree, lines_keep_kinds,
+    lines_meet_the_tree,
 };
