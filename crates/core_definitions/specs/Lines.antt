@@ -24,7 +24,7 @@ use Rattle.disk_definitions.specs.Plans.Plan.{Lacks, Clears, Finishes}
 use Rattle.disk_definitions.specs.Written.{Cached}
 use Rattle.core_definitions.specs.Caches.{Cache}
 use Rattle.core_definitions.specs.Logs.{SlotsRead}
-use Rattle.core_definitions.specs.Plans.{Sight, Outcome, cover_of, examined, outcome_of, planned, program_of, sight_of}
+use Rattle.core_definitions.specs.Plans.{Sight, Outcome, clear_needs, cover_of, examined_in, finish_needs, nodes_looked_at, outcome_of, planned, program_of, sight_of}
 use Rattle.core_definitions.specs.Sets.{LockSet, first_set, has_lock, lacks, next_segment, segments_in, to_ask}
 use Rattle.core_definitions.specs.Settings.{Setting}
 
@@ -124,23 +124,25 @@ abbrev pub needing : Comparison → LockSet → Seen → ℕ → LockId → Stag
 needing comparison set seen sector cover =
     if has_lock set cover then Fetching ((sector, cover) ∷ []) else once_through comparison (Growing ((cover, needed_mode cover) ∷ []) seen)
 
--- by what the plan comes to; the next segment to join is this one
-abbrev pub stage_by : Setting → Line → Sight → LockSet → Option ℕ → Comparison → Seen → Met Plan → Stage
-stage_by setting line sight set next comparison seen (Needs sector) = needing comparison set seen (number_of sector) (cover_of setting.segments sight sector)
-stage_by setting line sight set next comparison seen (Has Lacks) = once_through comparison (Growing (sole_segment next) seen)
-stage_by setting line sight set next comparison seen (Has (Clears block locks)) = once_through comparison (or_grown set locks seen (Clearing block))
-stage_by setting line sight set next comparison seen (Has (Finishes finish)) =
-    once_through comparison (or_grown set finish.locks seen (Finishing (outcome_of setting line sight finish)))
+-- by what the plan comes to, where it looked at the inodes of these nodes; the next segment to join is this one
+abbrev pub stage_by : Setting → Line → Op → Sight → LockSet → Option ℕ → Comparison → Seen → List ℕ → Met Plan → Stage
+stage_by setting line operation sight set next comparison seen nodes (Needs sector) = needing comparison set seen (number_of sector) (cover_of nodes sight sector)
+stage_by setting line operation sight set next comparison seen nodes (Has Lacks) = once_through comparison (Growing (sole_segment next) seen)
+stage_by setting line operation sight set next comparison seen nodes (Has (Clears block locks)) =
+    once_through comparison (or_grown set (clear_needs operation nodes sight block) seen (Clearing block))
+stage_by setting line operation sight set next comparison seen nodes (Has (Finishes finish)) =
+    once_through comparison (or_grown set (finish_needs nodes sight finish) seen (Finishing (outcome_of setting line nodes sight finish)))
 
 -- with the set held and the bitmaps at hand: what was seen is compared, and then the line is planned
-abbrev pub stage_over : Setting → Under → Option ℕ → Sight → Comparison → Ask Plan → Stage
-stage_over setting under next sight HasMoved program = Moving
-stage_over setting under next sight comparison program =
-    stage_by setting under.line sight under.set next comparison (seen_more sight.cached under.seen (examined setting.segments program sight)) (planned program sight)
+abbrev pub stage_over : Setting → Under → Op → Option ℕ → Sight → Comparison → Ask Plan → Stage
+stage_over setting under operation next sight HasMoved program = Moving
+stage_over setting under operation next sight comparison program =
+    stage_by setting under.line operation sight under.set next comparison (seen_more sight.cached under.seen (examined_in program sight)) (nodes_looked_at program sight)
+    (planned program sight)
 
 abbrev pub stage_in_sight : Setting → Under → Op → Option ℕ → Sight → Stage
 stage_in_sight setting under operation next sight =
-    stage_over setting under next sight (compared under.seen sight.cached) (program_of setting under.line operation sight)
+    stage_over setting under operation next sight (compared under.seen sight.cached) (program_of setting under.line operation sight)
 
 -- with the set held
 abbrev pub stage_held : Setting → Locks → ℕ → Cache → Under → Op → List (ℕ × LockId) → Stage

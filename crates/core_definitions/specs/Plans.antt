@@ -1,6 +1,6 @@
--- What a line's plan is while its set is held: what it is made over, what it examines, which lock covers each sector, and what it comes to once it is finished.
-use Rattle.std.specs.Prelude.{ℕ, Bool, Option, Some, None, List, [], ◌∷◌, filter, map}
-use Rattle.std.specs.List.{filter_map, list_all, take_while}
+-- What a line's plan is while its set is held: what it is made over, what it examines, which locks it finds, and what it comes to once it is finished.
+use Rattle.std.specs.Prelude.{ℕ, Bool, Option, Some, None, List, [], ◌∷◌}
+use Rattle.std.specs.List.{filter_map, list_all}
 use Rattle.std.specs.Option.{option_and_then, option_map, unwrap_or}
 use Rattle.frang_base.specs.declared.bitmap.Bitmap.{Bitmap}
 use Rattle.frang_base.specs.declared.change.Change.{Change}
@@ -17,19 +17,18 @@ use Rattle.sector_bytes.specs.SectorMaps.{value_at}
 use Rattle.disk_definitions.specs.declared.region.Region.TheVariants as region
 use Rattle.disk_definitions.specs.Bitmaps.{bitmap_in}
 use Rattle.disk_definitions.specs.Regions.{sector_of}
-use Rattle.disk_definitions.specs.Store.{store_of}
 use Rattle.disk_definitions.specs.Held.{Segments}
 use Rattle.disk_definitions.specs.Edits.{Edit}
 use Rattle.disk_definitions.specs.Edits.Edit.{SetBytes, SetLargeBytes}
-use Rattle.disk_definitions.specs.Ask.{Ask, AtHand, Met, Sector, BytesAt, LargeAt, looks, meet, number_of}
-use Rattle.disk_definitions.specs.Missing.{is_at_hand}
-use Rattle.disk_definitions.specs.Plans.{Finish, Plan}
+use Rattle.disk_definitions.specs.Ask.{Ask, AtHand, Met, Sector, BytesAt, LargeAt, meet, number_of}
+use Rattle.disk_definitions.specs.Plans.{Finish, Lock, Plan}
 use Rattle.disk_definitions.specs.Written.{Cached, at_hand, changes_of, edited_block, freed_sectors, hand_of, sectors_at_hand}
-use Rattle.disk_definitions.specs.Traces.{has_version}
-use Rattle.disk_definitions.specs.CoversAtHand.{cover_at_hand}
+use Rattle.disk_definitions.specs.LookedAt.{examined, looked_nodes}
+use Rattle.disk_definitions.specs.CoversAtHand.{cover_among}
+use Rattle.disk_definitions.specs.FoundLocks.{cleared_locks, finish_locks, owns_at_hand}
 use Rattle.disk_definitions.specs.Moves.{moved_by}
 use Rattle.disk_definitions.specs.Numbered.{moves_of}
-use Rattle.disk_definitions.specs.Lines.{plan_of_line}
+use Rattle.disk_definitions.specs.Lines.{plan_of_line, resolved}
 use Rattle.core_definitions.specs.Caches.{Cache, usable}
 use Rattle.core_definitions.specs.Sets.{LockSet, has_lock, segments_in}
 use Rattle.core_definitions.specs.Settings.{Setting}
@@ -69,18 +68,27 @@ program_of setting line operation sight =
 abbrev pub planned : Ask Plan → Sight → Met Plan
 planned program sight = meet program (known_in sight)
 
--- ---- what it examines
+-- the nodes at whose inodes it looks
+abbrev pub nodes_looked_at : Ask Plan → Sight → List ℕ
+nodes_looked_at program sight = looked_nodes program (known_in sight)
 
--- the sectors with a version that the plan examines, in order, before the first that isn't at hand
-abbrev pub examined : ℕ → Ask Plan → Sight → List ℕ
-examined segments program sight =
-    map number_of (filter has_version (take_while (is_at_hand (known_in sight)) (looks program (store_of segments (sectors_at_hand sight.cached sight.held)))))
+-- the sectors with a version that it examines, in order
+abbrev pub examined_in : Ask Plan → Sight → List ℕ
+examined_in program sight = examined program sight.cached sight.held
 
--- ---- which lock covers a sector
+-- ---- the locks that it finds, by the nodes at whose inodes it looked
 
--- the cover of a sector that the plan needs, by the bitmaps in the set and the cached inodes
-abbrev pub cover_of : ℕ → Sight → Sector → LockId
-cover_of segments sight sector = cover_at_hand sight.cached sight.held segments sector
+-- the cover of a sector that it needs
+abbrev pub cover_of : List ℕ → Sight → Sector → LockId
+cover_of nodes sight sector = cover_among sight.cached sight.held nodes sector
+
+-- those of the finished line
+abbrev pub finish_needs : List ℕ → Sight → Finish → List Lock
+finish_needs nodes sight finish = finish_locks (owns_at_hand sight.cached) sight.held nodes finish.reply finish.edits
+
+-- those of a line that has a block cleared, by the operation over paths without links to which its walks lead
+abbrev pub clear_needs : Op → List ℕ → Sight → ℕ → List Lock
+clear_needs operation nodes sight block = cleared_locks nodes block (meet (resolved operation) (known_in sight))
 
 -- ---- a finished plan
 
@@ -110,17 +118,17 @@ place_of (SetLargeBytes segment part bytes) = Some (LargeAt segment part)
 place_of edit = None
 
 -- they come under the lock that the edits say, or stay under the file's
-abbrev pub set_by : ℕ → Sight → List Edit → Edit → Option BytesSet
-set_by segments sight edits edit =
+abbrev pub set_by : List ℕ → Sight → List Edit → Edit → Option BytesSet
+set_by nodes sight edits edit =
     option_map
-    (λ place. record { sector = number_of place; block = edited_block [] 0 edit; cover = unwrap_or (moved_by edits place) (cover_of segments sight place) })
+    (λ place. record { sector = number_of place; block = edited_block [] 0 edit; cover = unwrap_or (moved_by edits place) (cover_of nodes sight place) })
     (place_of edit)
 
-abbrev pub outcome_of : Setting → Line → Sight → Finish → Outcome
-outcome_of setting line sight finish = record {
+abbrev pub outcome_of : Setting → Line → List ℕ → Sight → Finish → Outcome
+outcome_of setting line nodes sight finish = record {
   reply = finish.reply;
   redo = record_of (operation_number setting.run line.number) (changes_of (sectors_at_hand sight.cached sight.held) finish.edits);
-  bytes = filter_map (set_by setting.segments sight finish.edits) finish.edits;
+  bytes = filter_map (set_by nodes sight finish.edits) finish.edits;
   freed = freed_sectors finish.edits;
   moves = moves_of setting.segments finish.edits;
 }

@@ -1,6 +1,6 @@
 -- A worked run in which a block is cleared, computed in parts: the events in their order and the lines said.
 use Rattle.std.proofs.Common.{◌∙◌, ap}
-use Rattle.std.specs.Prelude.{◌≡◌, Option, Some, None, List, [], ◌∷◌, ◌++◌, codes, refl}
+use Rattle.std.specs.Prelude.{◌≡◌, ℕ, Option, Some, None, List, [], ◌∷◌, ◌++◌, codes, refl}
 use Rattle.frang_base.specs.Functions.{put}
 use Rattle.frang_base.specs.declared.lock.LockId.{LockId}
 use Rattle.frang_base.specs.declared.lock.LockId.TheVariants.{Node, Segment}
@@ -92,10 +92,13 @@ fetching at = fetched_by 0 at 10737418242 (bitmap_fetched.disk 10737418242) (bit
 unfoldable pub inode_fetched : State
 inode_fetched = with_first (left_by_one bitmap_fetched (Fetch 0 10737418242)) bitmap_fetched (fetching inode_needed)
 
--- it finds these locks, and has seen these sectors
+-- it has looked at the inodes of these nodes, finds these locks by them, and has seen these sectors
+abbrev pub made_nodes : List ℕ
+made_nodes = 0 ∷ 1 ∷ 0 ∷ 1 ∷ 2 ∷ []
+
 abbrev pub made_locks_found : List (LockId × Mode)
 made_locks_found =
-    (Node 0, Shared) ∷ (Node 1, Shared) ∷ (Node 0, Shared) ∷ (Node 1, Shared) ∷ (Node 1, Sole) ∷ (Node 2, Sole) ∷ (Segment 0, Sole) ∷ (Segment 0, Sole) ∷ []
+    (Node 0, Shared) ∷ (Node 1, Shared) ∷ (Node 0, Shared) ∷ (Node 1, Shared) ∷ (Node 2, Shared) ∷ (Node 1, Sole) ∷ (Node 2, Sole) ∷ (Segment 0, Sole) ∷ (Segment 0, Sole) ∷ []
 
 abbrev pub made_seen : Seen
 made_seen = (10737418240, 2) ∷ (12884901888, 1) ∷ (10737418241, 1) ∷ (4294967296, 2) ∷ (10737418242, 0) ∷ []
@@ -148,10 +151,10 @@ made_edits None = []
 made_edits (Some directory) = (made_by 1 directory (codes "x") 8589934594 (File [] 1 0) (0 ∷ 1 ∷ []) 2 (InBlock 1)).edits
 
 abbrev pub made_finish : Finish
-made_finish = record { reply = reply.Ok; edits = made_edits (stored_node (inode_in (inode_block 1 2 1 0 4294967298 []))); locks = made_locks_found }
+made_finish = record { reply = reply.Ok; edits = made_edits (stored_node (inode_in (inode_block 1 2 1 0 4294967298 []))); locks = [] }
 
 abbrev pub made_outcome : Outcome
-made_outcome = outcome_of zeros_wanted.core.setting (line 2 0 made) (sight_of 1 made_set (zeros_wanted.core.servers 0).cache) made_finish
+made_outcome = outcome_of zeros_wanted.core.setting (line 2 0 made) made_nodes (sight_of 1 made_set (zeros_wanted.core.servers 0).cache) made_finish
 
 abbrev pub finished : Option Stage
 finished = Some (Finishing made_outcome)

@@ -8,10 +8,12 @@ use Rattle.frang_base.specs.declared.op.Op.TheVariants as op
 use Rattle.lock_definitions.specs.Locks.{Locks, held, log_hold, no_clerks, no_locks, no_logs}
 use Rattle.lock_definitions.specs.Calls.{hold_of, taken, wanted}
 use Rattle.lock_definitions.specs.Servers.{any_server}
+use Rattle.ring_definitions.specs.Rings.{ring_at}
 use Rattle.sector_bytes.specs.Blocks.{Block, zero_block}
 use Rattle.sector_bytes.specs.Bytes.{zeros}
 use Rattle.core_definitions.specs.Caches.{dirty}
 use Rattle.core_definitions.specs.Lines.{under_at_first}
+use Rattle.core_definitions.specs.Flights.{Flights, OfLog}
 use Rattle.core_definitions.specs.Recoveries.{recovery_of}
 use Rattle.core_definitions.specs.Servers.{Server}
 use Rattle.core_definitions.specs.Effects.{after}
@@ -87,6 +89,19 @@ a_written_sector_is_clean = refl
 pub a_changed_sector_stays_dirty : open_now (next (arriving true zero_block) (Arrive 0) Written) ≡ Issue 0 file_sector ∷ Close 0 ∷ []
 unfolding no_clerks no_logs any_server zeros
 a_changed_sector_stays_dirty = refl
+
+-- changed anew with the block that it had, while the log's number of the change is in flight
+abbrev pub changed_back : Server
+changed_back = record (holding_file (dirty file_block (Node 1) 256 false) up) { staying = file_sector ∷ []; ring = record (ring_at 255) { above = false ∷ [] } }
+
+-- its older write and that of the log
+abbrev pub older_flights : Flights
+older_flights = (0, file_flight true) ∷ (1, record (file_flight true) { sector = 2147483648; purpose = OfLog 256 }) ∷ []
+
+-- the older write comes before its mark is reached: it stays dirty, and is written again once the log is acknowledged
+pub a_sector_waits_for_its_mark : choices 2 (next (flying (having idle 0 changed_back) older_flights) (Arrive 0) Written) ≡ (Arrive 1 ∷ Close 0 ∷ []) ∷ (Issue 0 file_sector ∷ Close 0 ∷ []) ∷ []
+unfolding no_clerks no_logs any_server zeros
+a_sector_waits_for_its_mark = refl
 
 -- a write of an earlier mount acknowledges nothing
 pub an_earlier_write_acknowledges_nothing : open_now (next (arriving false file_block) (Arrive 0) Written) ≡ Issue 0 file_sector ∷ Close 0 ∷ []

@@ -20,7 +20,7 @@ use Rattle.disk_definitions.specs.Plans.Plan.{Lacks, Clears, Finishes}
 use Rattle.tree_definitions.specs.Apply.{is_path_op}
 use Rattle.core_definitions.specs.Caches.{Cache}
 use Rattle.core_definitions.specs.Lines.{Comparison, HasMoved, HasStopped, HasGoneThrough, Seen, Stage, Asking, Fetching, Moving, Stopping, Growing, Clearing, Finishing, Under, compared, missing_bitmaps, needed_mode, needing, once_through, operation_of, or_grown, seen_more, sole_segment, stage_asked, stage_by, stage_held, stage_over}
-use Rattle.core_definitions.specs.Plans.{Sight, examined, outcome_of, planned, program_of, sight_of}
+use Rattle.core_definitions.specs.Plans.{Sight, clear_needs, examined_in, finish_needs, nodes_looked_at, outcome_of, planned, program_of, sight_of}
 use Rattle.core_definitions.specs.Servers.{Server, asked_by, asks, is_open, is_up, stage_of, stage_under, stage_with}
 use Rattle.core_definitions.specs.Sets.{LockSet, has_lock, lacks, next_segment, to_ask}
 use Rattle.core_definitions.specs.Settings.{Setting}
@@ -79,26 +79,27 @@ needing_past comparison set seen sector cover = go (has_lock set cover)
     go true = tt
     go false = through_past comparison (Growing ((cover, needed_mode cover) ∷ []) seen) tt
 
-by_past : (setting : Setting) (line : Line) (sight : Sight) (set : LockSet) (next : Option ℕ) (comparison : Comparison) (seen : Seen) (plan : Met Plan) →
-    IsPast (stage_by setting line sight set next comparison seen plan)
-by_past setting line sight set next comparison seen (Needs sector) = needing_past comparison set seen _ _
-by_past setting line sight set next comparison seen (Has Lacks) = through_past comparison (Growing (sole_segment next) seen) tt
-by_past setting line sight set next comparison seen (Has (Clears block locks)) = through_past comparison _ (grown_past set locks seen (Clearing block) tt)
-by_past setting line sight set next comparison seen (Has (Finishes finish)) =
-    through_past comparison _ (grown_past set finish.locks seen (Finishing (outcome_of setting line sight finish)) tt)
+by_past : (setting : Setting) (line : Line) (operation : Op) (sight : Sight) (set : LockSet) (next : Option ℕ) (comparison : Comparison) (seen : Seen) (nodes : List ℕ) (plan : Met Plan) →
+    IsPast (stage_by setting line operation sight set next comparison seen nodes plan)
+by_past setting line operation sight set next comparison seen nodes (Needs sector) = needing_past comparison set seen _ _
+by_past setting line operation sight set next comparison seen nodes (Has Lacks) = through_past comparison (Growing (sole_segment next) seen) tt
+by_past setting line operation sight set next comparison seen nodes (Has (Clears block locks)) =
+    through_past comparison _ (grown_past set (clear_needs operation nodes sight block) seen (Clearing block) tt)
+by_past setting line operation sight set next comparison seen nodes (Has (Finishes finish)) =
+    through_past comparison _ (grown_past set (finish_needs nodes sight finish) seen (Finishing (outcome_of setting line nodes sight finish)) tt)
 
-over_past : (setting : Setting) (under : Under) (next : Option ℕ) (sight : Sight) (comparison : Comparison) (program : Ask Plan) →
-    IsPast (stage_over setting under next sight comparison program)
-over_past setting under next sight HasMoved program = tt
-over_past setting under next sight HasStopped program =
-    by_past setting under.line sight under.set next HasStopped (seen_more sight.cached under.seen (examined setting.segments program sight)) (planned program sight)
-over_past setting under next sight HasGoneThrough program =
-    by_past setting under.line sight under.set next HasGoneThrough (seen_more sight.cached under.seen (examined setting.segments program sight)) (planned program sight)
+over_past : (setting : Setting) (under : Under) (operation : Op) (next : Option ℕ) (sight : Sight) (comparison : Comparison) (program : Ask Plan) →
+    IsPast (stage_over setting under operation next sight comparison program)
+over_past setting under operation next sight HasMoved program = tt
+over_past setting under operation next sight HasStopped program =
+    by_past setting under.line operation sight under.set next HasStopped (seen_more sight.cached under.seen (examined_in program sight)) (nodes_looked_at program sight) (planned program sight)
+over_past setting under operation next sight HasGoneThrough program =
+    by_past setting under.line operation sight under.set next HasGoneThrough (seen_more sight.cached under.seen (examined_in program sight)) (nodes_looked_at program sight) (planned program sight)
 
 held_past : (setting : Setting) (locks : Locks) (server : ℕ) (cache : Cache) (under : Under) (operation : Op) (missing : List (ℕ × LockId)) →
     IsPast (stage_held setting locks server cache under operation missing)
 held_past setting locks server cache under operation [] =
-    over_past setting under (next_segment setting.segments locks server under.set) (sight_of setting.segments under.set cache)
+    over_past setting under operation (next_segment setting.segments locks server under.set) (sight_of setting.segments under.set cache)
     (compared under.seen (sight_of setting.segments under.set cache).cached) (program_of setting under.line operation (sight_of setting.segments under.set cache))
 held_past setting locks server cache under operation (missing ∷ others) = tt
 

@@ -26,7 +26,7 @@ use Rattle.sector_bytes.specs.SectorMaps.{value_at}
 use Rattle.tree_definitions.specs.Apply.{is_path_op}
 use Rattle.core_definitions.specs.Caches.{Cache}
 use Rattle.core_definitions.specs.Lines.{Comparison, HasMoved, HasStopped, HasGoneThrough, Seen, Stage, Asking, Fetching, Moving, Stopping, Growing, Clearing, Finishing, Under, bitmap_sector, compared, is_seen, missing_bitmaps, needed_mode, needing, once_through, operation_of, or_grown, seen_more, sole_segment, stage_asked, stage_by, stage_held, stage_over, with_seen}
-use Rattle.core_definitions.specs.Plans.{Sight, examined, outcome_of, planned, program_of, sight_of}
+use Rattle.core_definitions.specs.Plans.{Sight, clear_needs, examined_in, finish_needs, nodes_looked_at, outcome_of, planned, program_of, sight_of}
 use Rattle.core_definitions.specs.Servers.{Server, asks, is_up, stage_of, stage_under, stage_with}
 use Rattle.core_definitions.specs.Sets.{LockSet, has_lock, lacks, next_segment, segment_of, segments_in, to_ask}
 use Rattle.core_definitions.specs.Settings.{Setting}
@@ -140,28 +140,29 @@ needing_order comparison set seen sector cover o = go (has_lock set cover)
     go true = sorted_one nat_cmp sector
     go false = through_order comparison (Growing ((cover, needed_mode cover) ∷ []) seen) o
 
-by_order : (setting : Setting) (line : Line) (sight : Sight) (set : LockSet) (next : Option ℕ) (comparison : Comparison) (seen : Seen) (plan : Met Plan) → AreOnce (keys_of seen) →
-    IsStageInOrder (stage_by setting line sight set next comparison seen plan)
-by_order setting line sight set next comparison seen (Needs sector) o = needing_order comparison set seen _ _ o
-by_order setting line sight set next comparison seen (Has Lacks) o = through_order comparison (Growing (sole_segment next) seen) o
-by_order setting line sight set next comparison seen (Has (Clears block locks)) o = through_order comparison _ (grown_order set locks seen (Clearing block) o tt)
-by_order setting line sight set next comparison seen (Has (Finishes finish)) o =
-    through_order comparison _ (grown_order set finish.locks seen (Finishing (outcome_of setting line sight finish)) o tt)
+by_order : (setting : Setting) (line : Line) (operation : Op) (sight : Sight) (set : LockSet) (next : Option ℕ) (comparison : Comparison) (seen : Seen) (nodes : List ℕ) (plan : Met Plan) →
+    AreOnce (keys_of seen) → IsStageInOrder (stage_by setting line operation sight set next comparison seen nodes plan)
+by_order setting line operation sight set next comparison seen nodes (Needs sector) o = needing_order comparison set seen _ _ o
+by_order setting line operation sight set next comparison seen nodes (Has Lacks) o = through_order comparison (Growing (sole_segment next) seen) o
+by_order setting line operation sight set next comparison seen nodes (Has (Clears block locks)) o =
+    through_order comparison _ (grown_order set (clear_needs operation nodes sight block) seen (Clearing block) o tt)
+by_order setting line operation sight set next comparison seen nodes (Has (Finishes finish)) o =
+    through_order comparison _ (grown_order set (finish_needs nodes sight finish) seen (Finishing (outcome_of setting line nodes sight finish)) o tt)
 
-over_order : (setting : Setting) (under : Under) (next : Option ℕ) (sight : Sight) (comparison : Comparison) (program : Ask Plan) →
+over_order : (setting : Setting) (under : Under) (operation : Op) (next : Option ℕ) (sight : Sight) (comparison : Comparison) (program : Ask Plan) →
     AreOnce (keys_of under.seen) →
-    IsStageInOrder (stage_over setting under next sight comparison program)
-over_order setting under next sight HasMoved program o = tt
-over_order setting under next sight HasStopped program o =
-    by_order setting under.line sight under.set next HasStopped _ (planned program sight) (seen_more_once sight.cached (examined setting.segments program sight) under.seen o)
-over_order setting under next sight HasGoneThrough program o =
-    by_order setting under.line sight under.set next HasGoneThrough _ (planned program sight) (seen_more_once sight.cached (examined setting.segments program sight) under.seen o)
+    IsStageInOrder (stage_over setting under operation next sight comparison program)
+over_order setting under operation next sight HasMoved program o = tt
+over_order setting under operation next sight HasStopped program o =
+    by_order setting under.line operation sight under.set next HasStopped _ (nodes_looked_at program sight) (planned program sight) (seen_more_once sight.cached (examined_in program sight) under.seen o)
+over_order setting under operation next sight HasGoneThrough program o =
+    by_order setting under.line operation sight under.set next HasGoneThrough _ (nodes_looked_at program sight) (planned program sight) (seen_more_once sight.cached (examined_in program sight) under.seen o)
 
 held_order : (setting : Setting) (locks : Locks) (server : ℕ) (cache : Cache) (under : Under) (operation : Op) (missing : List (ℕ × LockId)) →
     IsStrictlySortedBy nat_cmp (keys_of missing) →
     AreOnce (keys_of under.seen) → IsStageInOrder (stage_held setting locks server cache under operation missing)
 held_order setting locks server cache under operation [] s o =
-    over_order setting under (next_segment setting.segments locks server under.set) (sight_of setting.segments under.set cache)
+    over_order setting under operation (next_segment setting.segments locks server under.set) (sight_of setting.segments under.set cache)
     (compared under.seen (sight_of setting.segments under.set cache).cached) (program_of setting under.line operation (sight_of setting.segments under.set cache)) o
 held_order setting locks server cache under operation (missing ∷ others) s o = s
 

@@ -14,7 +14,7 @@ use Rattle.disk_definitions.specs.Plans.Plan.{Lacks, Clears, Finishes}
 use Rattle.disk_definitions.specs.Written.{hand_of}
 use Rattle.core_definitions.specs.Caches.{Cache}
 use Rattle.core_definitions.specs.Lines.{Comparison, HasMoved, HasStopped, HasGoneThrough, Seen, Stage, Asking, Fetching, Moving, Stopping, Growing, Clearing, Finishing, Under, compared, missing_bitmaps, needed_mode, needing, once_through, or_grown, seen_more, sole_segment, stage_asked, stage_at, stage_by, stage_held, stage_over}
-use Rattle.core_definitions.specs.Plans.{Outcome, Sight, cover_of, examined, known_in, outcome_of, planned, program_of, sight_of}
+use Rattle.core_definitions.specs.Plans.{Outcome, Sight, clear_needs, cover_of, examined_in, finish_needs, known_in, nodes_looked_at, outcome_of, planned, program_of, sight_of}
 use Rattle.core_definitions.specs.Sets.{LockSet, has_lock, lacks, next_segment, to_ask}
 use Rattle.core_definitions.specs.Settings.{Setting}
 use Rattle.core_transcripts.proofs.Always.{Always, always_met}
@@ -26,7 +26,7 @@ use Rattle.core_transcripts.proofs.Walking.{IsPlain}
 
 module _ (setting : Setting) (P : Stage → Type 0) (Q : Plan → Type 0) (asking : (need : Lock) → P (Asking need)) (fetching : (needs : List (ℕ × LockId)) → P (Fetching needs)) (moving : P Moving)
     (stopping : P Stopping) (growing : (needs : List Lock) (seen : Seen) → P (Growing needs seen)) (clears : (block : ℕ) (locks : List Lock) → Q (Clears block locks) → P (Clearing block))
-    (finishes : (line : Line) (sight : Sight) (finish : Finish) → Q (Finishes finish) → P (Finishing (outcome_of setting line sight finish))) where
+    (finishes : (line : Line) (nodes : List ℕ) (sight : Sight) (finish : Finish) → Q (Finishes finish) → P (Finishing (outcome_of setting line nodes sight finish))) where
   through : (comparison : Comparison) (stage : Stage) → P stage → P (once_through comparison stage)
   through HasGoneThrough stage p = p
   through HasStopped stage p = stopping
@@ -39,7 +39,7 @@ module _ (setting : Setting) (P : Stage → Type 0) (Q : Plan → Type 0) (askin
       go true = growing needs seen
       go false = p
 
-  module _ (line : Line) (sight : Sight) (set : LockSet) (next : Option ℕ) (comparison : Comparison) (seen : Seen) where
+  module _ (line : Line) (operation : Op) (sight : Sight) (set : LockSet) (next : Option ℕ) (comparison : Comparison) (seen : Seen) (nodes : List ℕ) where
     needs_so : (sector : ℕ) (cover : LockId) → P (needing comparison set seen sector cover)
     needs_so sector cover = go (has_lock set cover)
       where
@@ -47,26 +47,29 @@ module _ (setting : Setting) (P : Stage → Type 0) (Q : Plan → Type 0) (askin
         go true = fetching ((sector, cover) ∷ [])
         go false = through comparison (Growing ((cover, needed_mode cover) ∷ []) seen) (growing ((cover, needed_mode cover) ∷ []) seen)
 
-    by_plan : (met : Met Plan) → ((plan : Plan) → met ≡ Has plan → Q plan) → P (stage_by setting line sight set next comparison seen met)
-    by_plan (Needs sector) q = needs_so (number_of sector) (cover_of setting.segments sight sector)
+    by_plan : (met : Met Plan) → ((plan : Plan) → met ≡ Has plan → Q plan) → P (stage_by setting line operation sight set next comparison seen nodes met)
+    by_plan (Needs sector) q = needs_so (number_of sector) (cover_of nodes sight sector)
     by_plan (Has Lacks) q = through comparison (Growing (sole_segment next) seen) (growing (sole_segment next) seen)
     by_plan (Has (Clears block locks)) q =
-        through comparison (or_grown set locks seen (Clearing block)) (grown set locks seen (Clearing block) (clears block locks (q (Clears block locks) refl)))
+        through comparison (or_grown set (clear_needs operation nodes sight block) seen (Clearing block))
+        (grown set (clear_needs operation nodes sight block) seen (Clearing block) (clears block locks (q (Clears block locks) refl)))
     by_plan (Has (Finishes finish)) q =
-        through comparison (or_grown set finish.locks seen (Finishing (outcome_of setting line sight finish)))
-        (grown set finish.locks seen (Finishing (outcome_of setting line sight finish)) (finishes line sight finish (q (Finishes finish) refl)))
+        through comparison (or_grown set (finish_needs nodes sight finish) seen (Finishing (outcome_of setting line nodes sight finish)))
+        (grown set (finish_needs nodes sight finish) seen (Finishing (outcome_of setting line nodes sight finish)) (finishes line nodes sight finish (q (Finishes finish) refl)))
 
   pub stage_passes : (locks : Locks) (server : ℕ) (cache : Cache) (u : Under) (o : Op) → ((sight : Sight) → Always Q (program_of setting u.line o sight)) → P (stage_at setting locks server cache u o)
   stage_passes locks server cache u o always = asked (to_ask locks server u.set)
     where
-      over : (next : Option ℕ) (sight : Sight) (comparison : Comparison) → P (stage_over setting u next sight comparison (program_of setting u.line o sight))
+      over : (next : Option ℕ) (sight : Sight) (comparison : Comparison) → P (stage_over setting u o next sight comparison (program_of setting u.line o sight))
       over next sight HasMoved = moving
       over next sight HasStopped =
-          by_plan u.line sight u.set next HasStopped (seen_more sight.cached u.seen (examined setting.segments (program_of setting u.line o sight) sight)) (planned (program_of setting u.line o sight) sight)
-          (λ plan e. always_met Q (program_of setting u.line o sight) (known_in sight) plan (always sight) e)
+          let program = program_of setting u.line o sight in
+          by_plan u.line o sight u.set next HasStopped (seen_more sight.cached u.seen (examined_in program sight)) (nodes_looked_at program sight) (planned program sight)
+          (λ plan e. always_met Q program (known_in sight) plan (always sight) e)
       over next sight HasGoneThrough =
-          by_plan u.line sight u.set next HasGoneThrough (seen_more sight.cached u.seen (examined setting.segments (program_of setting u.line o sight) sight))
-          (planned (program_of setting u.line o sight) sight) (λ plan e. always_met Q (program_of setting u.line o sight) (known_in sight) plan (always sight) e)
+          let program = program_of setting u.line o sight in
+          by_plan u.line o sight u.set next HasGoneThrough (seen_more sight.cached u.seen (examined_in program sight)) (nodes_looked_at program sight) (planned program sight)
+          (λ plan e. always_met Q program (known_in sight) plan (always sight) e)
 
       held : (missing : List (ℕ × LockId)) → P (stage_held setting locks server cache u o missing)
       held [] =
@@ -85,7 +88,7 @@ StageIsPlain stage = Unit {0}
 
 pub stage_plain : (setting : Setting) (locks : Locks) (server : ℕ) (cache : Cache) (u : Under) (o : Op) → StageIsPlain (stage_at setting locks server cache u o)
 stage_plain setting locks server cache u o =
-    stage_passes setting StageIsPlain SaysPlain (λ need. tt) (λ needs. tt) tt tt (λ needs seen. tt) (λ block locks q. tt) (λ line sight finish q. q) locks server cache u o
+    stage_passes setting StageIsPlain SaysPlain (λ need. tt) (λ needs. tt) tt tt (λ needs seen. tt) (λ block locks q. tt) (λ line nodes sight finish q. q) locks server cache u o
     (λ sight. line_plain (hand_of sight.cached sight.held sight.all) (operation_number setting.run u.line.number) (time_in setting.run (script_time setting.script u.line.number)) o)
 
 -- ---- looks
@@ -101,11 +104,11 @@ StageLooks (Clearing block) = ⊥
 StageLooks (Finishing outcome) = HasNoChanges outcome
 StageLooks stage = Unit {0}
 
-no_changes : (setting : Setting) (line : Line) (sight : Sight) (finish : Finish) → finish.edits ≡ [] → HasNoChanges (outcome_of setting line sight finish)
-no_changes setting line sight finish e =
-    subst (λ edits. HasNoChanges (outcome_of setting line sight (record finish { edits = edits }))) (sym e) (record { redo = refl; bytes = refl; freed = refl })
+no_changes : (setting : Setting) (line : Line) (nodes : List ℕ) (sight : Sight) (finish : Finish) → finish.edits ≡ [] → HasNoChanges (outcome_of setting line nodes sight finish)
+no_changes setting line nodes sight finish e =
+    subst (λ edits. HasNoChanges (outcome_of setting line nodes sight (record finish { edits = edits }))) (sym e) (record { redo = refl; bytes = refl; freed = refl })
 
 pub stage_looks : (setting : Setting) (locks : Locks) (server : ℕ) (cache : Cache) (u : Under) (o : Op) → may_change o ≡ false → StageLooks (stage_at setting locks server cache u o)
 stage_looks setting locks server cache u o e =
-    stage_passes setting StageLooks OnlyLooks (λ need. tt) (λ needs. tt) tt tt (λ needs seen. tt) (λ block locks q. q) (λ line sight finish q. no_changes setting line sight finish q) locks server
+    stage_passes setting StageLooks OnlyLooks (λ need. tt) (λ needs. tt) tt tt (λ needs seen. tt) (λ block locks q. q) (λ line nodes sight finish q. no_changes setting line nodes sight finish q) locks server
     cache u o (λ sight. line_looks (hand_of sight.cached sight.held sight.all) (operation_number setting.run u.line.number) (time_in setting.run (script_time setting.script u.line.number)) o e)

@@ -1,5 +1,6 @@
--- Which lock covers a sector, by what is at hand: the held segments and the cached inodes.
-use Rattle.std.specs.Prelude.{ℕ, ◌+◌, ◌*◌, ◌/◌, Bool, false, ◌||◌, ◌==◌, if◌then◌else◌, Option, Some, None}
+-- Which lock covers a sector, by what is at hand: the held segments and the cached inodes. `cover_at_hand` goes over all inodes of the disk, for a sector of which nothing else is known;
+-- `cover_among` goes over the nodes at whose inodes a line looked, for a sector that the line needs or sets.
+use Rattle.std.specs.Prelude.{ℕ, ◌+◌, ◌*◌, ◌/◌, Bool, false, ◌||◌, ◌==◌, if◌then◌else◌, Option, Some, None, List, find}
 use Rattle.frang_base.specs.declared.limits.TheConstants.{SEGMENT_BLOCKS, SEGMENT_INODES}
 use Rattle.frang_base.specs.declared.lock.LockId.{LockId}
 use Rattle.frang_base.specs.declared.lock.LockId.TheVariants as lock
@@ -62,7 +63,25 @@ cover_at_hand cached held segments (SegmentAt segment) = lock.Segment segment
 cover_at_hand cached held segments (BytesAt block part) = small_cover cached held segments block
 cover_at_hand cached held segments (LargeAt block part) = large_cover cached held segments block
 
--- so it is of the place that a sector's number has
+-- ---- the same of a sector that a line needs or sets: the node that has the block is one of those at whose inodes the line looked
+
+-- the first of these nodes that has the small block
+abbrev pub small_owner_among : Cached → List ℕ → ℕ → Option ℕ
+small_owner_among cached nodes block = find (λ inode. has_small block (inode_at_hand cached inode)) nodes
+
+abbrev pub large_owner_among : Cached → List ℕ → ℕ → Option ℕ
+large_owner_among cached nodes block = find (λ inode. has_large block (inode_at_hand cached inode)) nodes
+
+abbrev pub cover_among : Cached → Segments → List ℕ → Sector → LockId
+cover_among cached held nodes (InodeAt inode) = inode_cover held inode
+cover_among cached held nodes (DirectoryAt block part) = node_or_segment (small_owner_among cached nodes block) (block / SEGMENT_BLOCKS)
+cover_among cached held nodes (SegmentAt segment) = lock.Segment segment
+cover_among cached held nodes (BytesAt block part) = node_or_segment (small_owner_among cached nodes block) (block / SEGMENT_BLOCKS)
+cover_among cached held nodes (LargeAt block part) = node_or_segment (large_owner_among cached nodes block) block
+
+-- ---- by the number of a sector
+
+-- the cover of the place that a sector's number has
 abbrev pub place_cover : Cached → Segments → ℕ → Option Region → Option LockId
 place_cover cached held segments None = None
 place_cover cached held segments (Some region.Param) = None

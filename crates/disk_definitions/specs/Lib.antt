@@ -47,3 +47,5 @@ pub mod Covers
 pub mod Moves
 pub mod Numbered
 pub mod CoversAtHand
+pub mod LookedAt
+pub mod FoundLocks

@@ -61,7 +61,7 @@ module _ (cached : Cached) (held : Segments) (all : Bool) (sectors : Sectors) (t
   free_inode : (i : ℕ) → inode_in held i ≡ Some false → true_covers.inode_cover i (n.birth i) ≡ lock.Segment (i / 64)
   free_inode i e = inode_lock s (node_at tree) n g i ∙ ap (by_bit i) (is_hand.bits i false e)
 
-  inode_true : (i : ℕ) → IsInodeTold s held i → inode_cover held i ≡ true_covers.inode_cover i (n.birth i)
+  pub inode_true : (i : ℕ) → IsInodeTold s held i → inode_cover held i ≡ true_covers.inode_cover i (n.birth i)
   inode_true i told = go (is_free (inode_in held i)) refl told
     where
       go : (b : Bool) → is_free (inode_in held i) ≡ b → IsInodeTold s held i → (if b then lock.Segment (i / 64) else lock.Node i) ≡ true_covers.inode_cover i (n.birth i)
@@ -71,7 +71,7 @@ module _ (cached : Cached) (held : Segments) (all : Bool) (sectors : Sectors) (t
 
   -- ---- small blocks
 
-  marked_free : (k : ℕ) → is_marked_unused held k ≡ true → true_covers.small_cover n k (n.owner k) ≡ lock.Segment (k / 1024)
+  pub marked_free : (k : ℕ) → is_marked_unused held k ≡ true → true_covers.small_cover n k (n.owner k) ≡ lock.Segment (k / 1024)
   marked_free k = go (is_in_state 0 (state_in held k)) refl (is_in_state 2 (state_in held k)) refl
     where
       go : (a : Bool) → is_in_state 0 (state_in held k) ≡ a → (b : Bool) → is_in_state 2 (state_in held k) ≡ b → (a || b) ≡ true → true_covers.small_cover n k (n.owner k) ≡ lock.Segment (k / 1024)

@@ -16,6 +16,7 @@ pub mod Planned
 pub mod Allowed
 pub mod Inside
 pub mod Covered
+pub mod LineEdits
 pub mod OnDisk
 pub mod Ways
 pub mod Lifting
@@ -53,6 +54,7 @@ pub mod CoverAllTold
 pub mod Entries
 pub mod LinesTold
 pub mod CoverAtHand
+pub mod CoverAmong
 pub mod Asked
 pub mod Told
 pub mod Squeezed

@@ -12,7 +12,8 @@ use Rattle.disk_definitions.specs.Written.{Cached, at_hand, hand_of}
 use Rattle.disk_definitions.specs.Covers.{cover_of}
 use Rattle.disk_definitions.specs.Traces.{traced}
 use Rattle.disk_definitions.specs.Lines.{plan_of_line}
-use Rattle.disk_definitions.specs.CoversAtHand.{cover_at_hand}
+use Rattle.disk_definitions.specs.LookedAt.{looked_nodes}
+use Rattle.disk_definitions.specs.CoversAtHand.{cover_among, cover_at_hand}
 
 -- the computation looks at the sector, which is at hand, or needs it
 abbrev pub AsksFor : {A : Type 0} → Ask A → AtHand → Sector → Type 0
@@ -25,3 +26,12 @@ CoversAtHandAreTrue =
     AreOfDisk cached held all tree.segments sectors → (below : StandsBelow sectors tree) →
     (sector : Sector) → AsksFor (plan_of_line (hand_of cached held all) birth when operation) (at_hand cached held) sector →
     cover_at_hand cached held tree.segments sector ≡ cover_of below.stands.naming sector
+
+-- and so it is by the nodes at whose inodes the line looked
+abbrev pub CoversAmongAreTrue : Type 0
+CoversAmongAreTrue =
+    (operation : Op) (cached : Cached) (held : Segments) (all : Bool) (sectors : Sectors) (tree : FileTree) (birth when : ℕ) →
+    AreOfDisk cached held all tree.segments sectors → (below : StandsBelow sectors tree) →
+    let program = plan_of_line (hand_of cached held all) birth when operation in
+    (sector : Sector) → AsksFor program (at_hand cached held) sector →
+    cover_among cached held (looked_nodes program (at_hand cached held)) sector ≡ cover_of below.stands.naming sector

@@ -4,7 +4,7 @@
 //! laws of lines and on the traces of plans.
 
 ghost use Rattle.line_laws.specs.Told.{LinesAreTold};
-ghost use Rattle.line_laws.specs.Covers.{CoversAtHandAreTrue};
+ghost use Rattle.line_laws.specs.Covers.{CoversAmongAreTrue, CoversAtHandAreTrue};
 
 /// Over the disk of a tree, with segments of it at hand, each inode at which a line looks is in use, or a held segment has it free. Each block is one of a
 /// node whose inode was looked at before, or a held segment has it free; a large block is one of a node whose inode was looked at before.
@@ -13,7 +13,8 @@ pub fn lines_look_at_what_they_were_told_of()
 {}
 
 /// Over sectors and bitmaps of a disk that stands for a tree, of each sector at hand at which a line looks, and of the one that it needs, the cover by what
-/// is at hand is the lock that covers it by the naming of the disk.
+/// is at hand is the lock that covers it by the naming of the disk; and so is the cover by the nodes at whose inodes the line looked.
 pub fn covers_at_hand_are_the_true_ones()
     ensures covers { CoversAtHandAreTrue }
+    ensures looked { CoversAmongAreTrue }
 {}

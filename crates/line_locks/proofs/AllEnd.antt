@@ -13,7 +13,7 @@ use Rattle.disk_definitions.specs.LookPlans.{at_inode, described, listing, plan_
 use Rattle.disk_definitions.specs.PlanOf.{plan_of}
 use Rattle.disk_definitions.specs.Plans.{Hand, Plan, refused}
 use Rattle.plan_laws.proofs.Standing.{DiskStands}
-use Rattle.line_locks.specs.Found.{makes_node, nodes_behind}
+use Rattle.disk_definitions.specs.FoundLocks.{makes_node, nodes_behind}
 use Rattle.line_locks.proofs.Ending.{Ends}
 use Rattle.line_locks.proofs.FilesEnd.{cutting_ends, file_ends, inode_ends, kind_ends, listing_ends, node_ends, showing_ends, writing_ends}
 use Rattle.line_locks.proofs.NamesEnd.{linked_ends_so, made_path_ends, rmdir_ends, unlink_ends}

@@ -32,8 +32,9 @@ use Rattle.plan_laws.proofs.Traces.{traces_follow_looks}
 use Rattle.disk_definitions.specs.Lines.{plan_of_line, plan_step, resolved}
 use Rattle.line_laws.proofs.Inside.{lines_inside}
 use Rattle.line_laws.proofs.TraceLines.{follows_disk}
-use Rattle.line_locks.specs.Found.{clear_locks, edit_locks_of, edit_locks, finish_locks, full_locks, nodes_of, owns_at_hand}
-use Rattle.line_locks.specs.Lines.{ClearLocksAreFound, FinishLocksAreFound, looked_nodes}
+use Rattle.disk_definitions.specs.LookedAt.{nodes_of, looked_nodes}
+use Rattle.disk_definitions.specs.FoundLocks.{clear_locks, edit_locks_of, edit_locks, finish_locks, full_locks, owns_at_hand}
+use Rattle.line_locks.specs.Lines.{ClearLocksAreFound, FinishLocksAreFound}
 use Rattle.line_locks.specs.Same.{AreAlike}
 use Rattle.line_locks.proofs.LinesEnd.{ClearIs, LineEnds, line_ends}
 use Rattle.line_locks.proofs.PlansEnd.{found, owns}
@@ -101,7 +102,7 @@ module _ (f g : ℕ → ℕ → Bool) (nodes : List ℕ) (same : (i : ℕ) → C
 -- ---- lines
 
 module _ (o : Op) (cached : Cached) (held : Segments) (all : Bool) (sectors : Sectors) (tree : FileTree) (birth when : ℕ) (of : AreOfDisk cached held all tree.segments sectors) (below : StandsBelow sectors tree) where
-  abbrev s : Store
+  abbrev pub s : Store
   s = store_of tree.segments sectors
 
   abbrev h : Hand
@@ -113,7 +114,7 @@ module _ (o : Op) (cached : Cached) (held : Segments) (all : Bool) (sectors : Se
   abbrev n : Naming
   n = below.stands.naming
 
-  abbrev p : Ask Plan
+  abbrev pub p : Ask Plan
   p = plan_of_line h birth when o
 
   pub is_of : IsOfTree s tree n
@@ -129,7 +130,7 @@ module _ (o : Op) (cached : Cached) (held : Segments) (all : Bool) (sectors : Se
   ran v e = has_all (first_missing c (looks p s)) (run p s) v (sym (meets_where p c s agree) ∙ e)
 
   -- the nodes at which it looked are those over the disk
-  same_nodes : first_missing c (looks p s) ≡ None → looked_nodes p c ≡ nodes_of (looks p s)
+  pub same_nodes : first_missing c (looks p s) ≡ None → looked_nodes p c ≡ nodes_of (looks p s)
   same_nodes none = ap nodes_of (follows_disk o cached held all sectors tree birth when of below ∙ take_all c (looks p s) none)
 
   line_end : (v : Plan) → meet p c ≡ Has v → LineEnds h s (run (resolved o) s).step (looked_nodes p c) v

@@ -19,7 +19,7 @@ use Rattle.disk_definitions.specs.Covers.{cover_of, small_cover}
 use Rattle.plan_laws.proofs.Fine.{held_key}
 use Rattle.plan_laws.proofs.Standing.{DiskStands}
 use Rattle.disk_definitions.specs.CoversAtHand.{has_small}
-use Rattle.line_locks.specs.Found.{edit_locks_of, edit_locks, full_locks}
+use Rattle.disk_definitions.specs.FoundLocks.{edit_locks_of, edit_locks, full_locks}
 use Rattle.line_locks.specs.Same.{AreWithin}
 use Rattle.line_locks.proofs.Alike.{within_join, within_nodes, within_segments}
 use Rattle.line_locks.proofs.PlansEnd.{owns}

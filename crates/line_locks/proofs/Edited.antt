@@ -19,7 +19,7 @@ use Rattle.plan_laws.specs.Locks.{IsSole}
 use Rattle.plan_laws.proofs.WalksFine.{either}
 use Rattle.plan_laws.proofs.OneNode.{small_of}
 use Rattle.disk_definitions.specs.CoversAtHand.{has_small}
-use Rattle.line_locks.specs.Found.{edit_locks_of, edit_locks}
+use Rattle.disk_definitions.specs.FoundLocks.{edit_locks_of, edit_locks}
 use Rattle.line_locks.proofs.Alike.{sole_left, sole_right}
 use Rattle.line_locks.proofs.PlansEnd.{owns}
 

@@ -3,7 +3,7 @@ use Rattle.std.proofs.Common.{◌≡◌, ℕ, List, [], ◌∷◌, ◌++◌, ref
 use Rattle.std.proofs.lemmas.List.{append-nil, append_assoc}
 use Rattle.disk_definitions.specs.Store.{Store}
 use Rattle.disk_definitions.specs.Ask.{Ask, Got, ReadInode, ReadDirectory, ReadSegment, ReadBytes, ReadLarge, bind, seven, part_of, run, looks, read_segments}
-use Rattle.line_locks.specs.Found.{nodes_of}
+use Rattle.disk_definitions.specs.LookedAt.{nodes_of}
 
 module _ (s : Store) where
   abbrev pub Ends : {A : Type 0} → (List ℕ → A → Type 0) → Ask A → List ℕ → Type 0

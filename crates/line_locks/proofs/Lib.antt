@@ -13,3 +13,4 @@ pub mod Covered
 pub mod LinesEnd
 pub mod AtHand
 pub mod Numbers
+mod SetCovers

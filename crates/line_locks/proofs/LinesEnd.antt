@@ -23,7 +23,8 @@ use Rattle.plan_laws.proofs.Fine.{only_held, shared_held}
 use Rattle.plan_laws.proofs.Standing.{DiskStands, disk_stands}
 use Rattle.plan_laws.proofs.WalksFine.{either}
 use Rattle.disk_definitions.specs.Lines.{plan_of_line, plan_step, resolved, with_trail}
-use Rattle.line_locks.specs.Found.{clear_locks, clear_soles, edit_locks, from_end, full_locks, makes_node, nodes_behind, nodes_of}
+use Rattle.disk_definitions.specs.LookedAt.{nodes_of}
+use Rattle.disk_definitions.specs.FoundLocks.{clear_locks, clear_soles, edit_locks, from_end, full_locks, makes_node, nodes_behind}
 use Rattle.line_locks.specs.Same.{AreAlike, AreWithin}
 use Rattle.line_locks.proofs.Alike.{held_left, held_right, within_join, within_more, within_shared}
 use Rattle.line_locks.proofs.AllEnd.{OpEnds, plan_ends}

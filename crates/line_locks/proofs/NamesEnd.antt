@@ -22,7 +22,7 @@ use Rattle.disk_definitions.specs.Walks.Spot.{AtRoot, AtName, AtGap, Lost}
 use Rattle.plan_laws.proofs.Covering.{has_head, has_more}
 use Rattle.plan_laws.proofs.Standing.{HasKind, DiskStands}
 use Rattle.plan_laws.proofs.WalksFine.{either, SpotStands}
-use Rattle.line_locks.specs.Found.{from_end}
+use Rattle.disk_definitions.specs.FoundLocks.{from_end}
 use Rattle.line_locks.proofs.Edited.{IsEdited, IsRoom, bit_second, edited_left, edited_right, node_first, segments_right, enter_node, enter_segments, fewer_inode, fewer_segments_edited}
 use Rattle.line_locks.proofs.Ending.{Ends}
 use Rattle.line_locks.proofs.PlansEnd.{AreEdited, AreTouched, FinishEnds, PlanEnds, block_ends, clear_ends, finish_ends, from_end_is, held_ends, last_of, none_ends, over_ends, refuse_ends}

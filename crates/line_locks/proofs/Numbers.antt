@@ -29,7 +29,7 @@ use Rattle.disk_definitions.specs.Lines.{plan_of_line}
 use Rattle.line_laws.proofs.Inside.{lines_inside}
 use Rattle.line_laws.proofs.TraceLines.{follows_disk}
 use Rattle.line_laws.proofs.TraceLooked.{inside_first}
-use Rattle.line_locks.specs.Found.{nodes_in, nodes_of, with_node, with_node_in}
+use Rattle.disk_definitions.specs.LookedAt.{nodes_in, nodes_of, with_node, with_node_in}
 use Rattle.line_locks.specs.Lines.{NumbersTellNodes}
 
 -- a sector that isn't among the inodes is that of none

@@ -21,7 +21,7 @@ use Rattle.plan_laws.specs.Locks.{IsSole}
 use Rattle.plan_laws.specs.Covers.{IsHeld}
 use Rattle.plan_laws.proofs.Fine.{first_held, only_held}
 use Rattle.disk_definitions.specs.CoversAtHand.{has_small}
-use Rattle.line_locks.specs.Found.{edit_locks_of, edit_locks, full_locks, finish_locks, from_end, made_segments, clear_soles}
+use Rattle.disk_definitions.specs.FoundLocks.{edit_locks_of, edit_locks, full_locks, finish_locks, from_end, made_segments, clear_soles}
 use Rattle.line_locks.specs.Same.{AreWithin}
 use Rattle.line_locks.proofs.Alike.{within_itself, within_join, within_shared, within_nodes, within_segments, sole_left, sole_right, held_left}
 use Rattle.line_locks.proofs.Ending.{Ends, ends_segments}

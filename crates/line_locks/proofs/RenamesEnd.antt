@@ -21,7 +21,7 @@ use Rattle.plan_laws.proofs.Covering.{has_head, has_more}
 use Rattle.plan_laws.proofs.Fine.{only_held}
 use Rattle.plan_laws.proofs.Standing.{HasKind, DiskStands}
 use Rattle.plan_laws.proofs.WalksFine.{either, SpotStands}
-use Rattle.line_locks.specs.Found.{from_end}
+use Rattle.disk_definitions.specs.FoundLocks.{from_end}
 use Rattle.line_locks.proofs.Alike.{held_left, within_join, within_nodes, within_shared}
 use Rattle.line_locks.proofs.Edited.{IsEdited, IsRoom, edited_left, edited_right, node_first, segments_left, segments_right, place_edited, enter_node, enter_segments, fewer_inode, fewer_segments_edited}
 use Rattle.line_locks.proofs.Ending.{Ends}

@@ -11,7 +11,7 @@ use Rattle.disk_definitions.specs.Plans.{Plan}
 use Rattle.disk_definitions.specs.FilePlans.{Writing, keeps_bytes, mixed, read_sector, read_sectors, set_sector, write_sectors}
 use Rattle.disk_definitions.specs.Written.{Cached, at_hand, bytes_at_hand}
 use Rattle.disk_definitions.specs.Traces.{by_said, has_version, traced}
-use Rattle.plan_steps.specs.Looking.{examined}
+use Rattle.disk_definitions.specs.LookedAt.{examined}
 
 module _ (cached : Cached) (held : Segments) where
   said_none : (s : Sector) (o : Option (ℕ → ℕ)) (next : (ℕ → ℕ) → Ask Plan) → has_version s ≡ false → ((bytes : ℕ → ℕ) → examined (next bytes) cached held ≡ [])

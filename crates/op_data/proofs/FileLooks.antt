@@ -15,7 +15,8 @@ use Rattle.dir_lookup.specs.Hands.{seen}
 use Rattle.dir_lookup.specs.Looked.{Adds}
 use Rattle.dir_lookup.specs.declared.hand.Hand.{Hand}
 use Rattle.dir_lookup.proofs.Looking.{adds_as}
-use Rattle.plan_steps.specs.Looking.{Looks, LooksAtInode, LooksAtTarget, LooksTo, examined, looked_over, segment_number}
+use Rattle.disk_definitions.specs.LookedAt.{examined}
+use Rattle.plan_steps.specs.Looking.{Looks, LooksAtInode, LooksAtTarget, LooksTo, looked_over, segment_number}
 use Rattle.plan_steps.specs.Targets.{node_of}
 use Rattle.plan_steps.specs.declared.stop.Stop.{Stop}
 use Rattle.plan_steps.specs.declared.target.Target.{Target as Found}

@@ -13,7 +13,8 @@ use Rattle.disk_definitions.specs.Plans.{Hand, Plan, Finish, Finishes, Room, fin
 use Rattle.disk_definitions.specs.NamePlans.{Moving, fewer_segments, finish_over, linked_by, linking_in, linking_node, made_by, making, making_in, making_with, moved_between, moved_onto_by, moved_within, moving_in, moving_onto, moving_to, plan_renamed, replacing_node}
 use Rattle.disk_definitions.specs.Written.{Cached, hand_of}
 use Rattle.dir_lookup.specs.Looked.{Adds}
-use Rattle.plan_steps.specs.Looking.{Looks, LooksTo, examined, segment_number}
+use Rattle.disk_definitions.specs.LookedAt.{examined}
+use Rattle.plan_steps.specs.Looking.{Looks, LooksTo, segment_number}
 use Rattle.dir_lookup.specs.Reading.{Gives, reading}
 use Rattle.plan_steps.specs.declared.room.Room.{Room as CodeRoom}
 use Rattle.plan_steps.specs.declared.room.Room.TheVariants as room

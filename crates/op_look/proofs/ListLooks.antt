@@ -12,7 +12,8 @@ use Rattle.disk_definitions.specs.Ask.{Ask, Got, ReadDirectory, bind}
 use Rattle.disk_definitions.specs.Plans.{Plan, refused}
 use Rattle.disk_definitions.specs.LookPlans.{entries_of, read_entries, listing}
 use Rattle.disk_definitions.specs.Written.{Cached}
-use Rattle.plan_steps.specs.Looking.{Looks, LooksTo, examined}
+use Rattle.disk_definitions.specs.LookedAt.{examined}
+use Rattle.plan_steps.specs.Looking.{Looks, LooksTo}
 use Rattle.dir_lookup.specs.Reading.{Lacks, Gives, reading}
 use Rattle.plan_steps.proofs.Looking.{bind_end, bind_to, looks_as, none_more, stays, then_looks, then_to, to_as, as_to}
 use Rattle.op_look.specs.Looks.{with_name}

@@ -14,8 +14,8 @@ use Rattle.lock_definitions.specs.Order.{lock_cmp}
 use Rattle.core_definitions.specs.Sets.{LockSet, joined_all, mode_in}
 use Rattle.dir_lookup.specs.declared.hand.Hand.{Hand}
 use Rattle.disk_definitions.specs.Lines.{plan_of_line}
-use Rattle.line_locks.specs.Lines.{looked_nodes}
-use Rattle.line_locks.specs.Found.{clear_locks, finish_locks, nodes_in, owns_at_hand}
+use Rattle.disk_definitions.specs.LookedAt.{looked_nodes, nodes_in}
+use Rattle.disk_definitions.specs.FoundLocks.{clear_locks, finish_locks, owns_at_hand}
 use Rattle.line_locks.proofs.AtHand.{clear_locks_found, finish_locks_found, is_hand, is_of, ran}
 use Rattle.line_locks.proofs.Joining.{join_alike, sole_mode}
 use Rattle.line_laws.proofs.Laws.{line_moves_are_owned}

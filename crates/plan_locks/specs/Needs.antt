@@ -21,8 +21,7 @@ use Rattle.disk_definitions.specs.Moves.{moved_by}
 use Rattle.disk_definitions.specs.Lines.{plan_of_line, resolved}
 use Rattle.core_definitions.specs.Sets.{LockSet, joined_all, mode_in}
 use Rattle.dir_lookup.specs.declared.hand.Hand.{Hand}
-use Rattle.line_locks.specs.Found.{nodes_in}
-use Rattle.line_locks.specs.Lines.{looked_nodes}
+use Rattle.disk_definitions.specs.LookedAt.{nodes_in, looked_nodes}
 
 -- so it is of each line that has looked at the nodes of these sectors, by their numbers, and of the naming of the disk
 abbrev pub OfEachLine : Cached → Segments → Bool → ℕ → List ℕ → (Op → Ask Plan → Naming → Type 0) → Type 0

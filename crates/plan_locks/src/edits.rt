@@ -4,7 +4,7 @@ ghost use Rattle.std.specs.Map.{keys_of};
 ghost use Rattle.core_definitions.specs.Sets.{joined_all};
 ghost use Rattle.disk_definitions.specs.Plans.{shared_nodes, sole_nodes, sole_segments, says_full};
 ghost use Rattle.plan_steps.specs.Edits.{edit_of, edits_of};
-ghost use Rattle.line_locks.specs.Found.{edit_locks, edit_locks_of, full_locks, owns_at_hand};
+ghost use Rattle.disk_definitions.specs.FoundLocks.{edit_locks, edit_locks_of, full_locks, owns_at_hand};
 
 use crate::set::LockSet;
 use edit_moves::owns_small;

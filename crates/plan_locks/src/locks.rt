@@ -3,7 +3,8 @@ ghost use Rattle.std.specs.Prelude.{◌≡◌, ◌≤◌, ◌/◌, ◌∷◌, []
 ghost use Rattle.frang_base.specs.declared.limits.TheConstants.{SEGMENT_BLOCKS, SEGMENTS_MAX};
 ghost use Rattle.core_definitions.specs.Sets.{joined_all};
 ghost use Rattle.plan_steps.specs.Edits.{edits_of};
-ghost use Rattle.line_locks.specs.Found.{clear_locks, clear_soles, finish_locks, from_end, makes_node, nodes_behind, nodes_in, owns_at_hand};
+ghost use Rattle.disk_definitions.specs.LookedAt.{nodes_in};
+ghost use Rattle.disk_definitions.specs.FoundLocks.{clear_locks, clear_soles, finish_locks, from_end, makes_node, nodes_behind, owns_at_hand};
 ghost use Rattle.plan_locks.specs.Needs.{ClearIsNeeded, FinishIsNeeded, MovesAreSole};
 ghost use Rattle.plan_locks.specs.Seen.{numbers};
 

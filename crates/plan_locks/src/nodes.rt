@@ -1,7 +1,8 @@
 // The nodes at whose inodes a plan looked.
 ghost use Rattle.std.specs.Prelude.{◌≡◌, ◌≤◌, IfOk, OnOk};
 ghost use Rattle.frang_base.specs.declared.limits.TheConstants.{SEGMENTS_MAX};
-ghost use Rattle.line_locks.specs.Found.{from_end, nodes_in, with_node};
+ghost use Rattle.disk_definitions.specs.LookedAt.{nodes_in, with_node};
+ghost use Rattle.disk_definitions.specs.FoundLocks.{from_end};
 ghost use Rattle.plan_locks.specs.Seen.{numbers};
 
 use frang_base::{NoMemory, Sector};

@@ -10,7 +10,8 @@ use Rattle.disk_definitions.specs.Ask.{Ask, read_segments}
 use Rattle.disk_definitions.specs.Plans.{Hand, read_held}
 use Rattle.disk_definitions.specs.Written.{Cached, is_held}
 use Rattle.dir_lookup.specs.Reading.{reading}
-use Rattle.plan_steps.specs.Looking.{examined, segment_number}
+use Rattle.disk_definitions.specs.LookedAt.{examined}
+use Rattle.plan_steps.specs.Looking.{segment_number}
 
 pub held_by : (held : Segments) (k : ℕ) (o : Option Bitmap) → bitmap_of held k ≡ o → is_some o ≡ true → is_held held k ≡ true
 held_by held k None e s = absurd (cc)

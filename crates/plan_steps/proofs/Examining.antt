@@ -15,7 +15,8 @@ use Rattle.dir_lookup.specs.Looked.{Adds}
 use Rattle.dir_lookup.specs.Looks.{looks_of}
 use Rattle.dir_lookup.specs.Reading.{Read, Lacks, Gives, reading}
 use Rattle.dir_lookup.proofs.Looking.{adds_as, gives_met, lacks_met}
-use Rattle.plan_steps.specs.Looking.{Looks, examined}
+use Rattle.disk_definitions.specs.LookedAt.{examined}
+use Rattle.plan_steps.specs.Looking.{Looks}
 
 -- ---- one program after another
 

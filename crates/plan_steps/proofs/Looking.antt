@@ -5,7 +5,8 @@ use Rattle.disk_definitions.specs.Ask.{Ask, bind}
 use Rattle.disk_definitions.specs.Written.{Cached}
 use Rattle.dir_lookup.specs.Reading.{Lacks, Gives, reading}
 use Rattle.dir_lookup.proofs.Looking.{adds_as, adds_none, adds_then}
-use Rattle.plan_steps.specs.Looking.{Looks, LooksTo, examined}
+use Rattle.disk_definitions.specs.LookedAt.{examined}
+use Rattle.plan_steps.specs.Looking.{Looks, LooksTo}
 use Rattle.plan_steps.proofs.Examining.{examined_end, examined_on}
 
 module _ (cached : Cached) (held : Segments) where

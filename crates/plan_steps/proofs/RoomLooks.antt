@@ -11,7 +11,8 @@ use Rattle.disk_definitions.specs.Written.{Cached, hand_of}
 use Rattle.dir_lookup.specs.Looked.{Adds}
 use Rattle.dir_lookup.specs.Reading.{Lacks, Gives, reading}
 use Rattle.dir_lookup.proofs.Looking.{adds_as}
-use Rattle.plan_steps.specs.Looking.{Looks, examined, segment_number}
+use Rattle.disk_definitions.specs.LookedAt.{examined}
+use Rattle.plan_steps.specs.Looking.{Looks, segment_number}
 use Rattle.plan_steps.proofs.AtHand.{held_looked}
 use Rattle.plan_steps.proofs.Examining.{examined_got, examined_on}
 use Rattle.plan_steps.proofs.Looking.{bind_end, bind_to, none_more, then_looks}

@@ -11,7 +11,8 @@ use Rattle.disk_definitions.specs.Written.{Cached, at_hand, is_held}
 use Rattle.disk_definitions.specs.Traces.{behind, has_version, needs, Traced, traced}
 use Rattle.dir_lookup.specs.Looked.{Adds}
 use Rattle.dir_lookup.proofs.Looking.{adds_as, adds_then}
-use Rattle.plan_steps.specs.Looking.{examined, looked_over, segment_number}
+use Rattle.disk_definitions.specs.LookedAt.{examined}
+use Rattle.plan_steps.specs.Looking.{looked_over, segment_number}
 use Rattle.plan_steps.specs.Rooms.{needed}
 use Rattle.plan_steps.proofs.Needed.{below_next, needed_below}
 

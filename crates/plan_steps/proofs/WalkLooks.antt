@@ -15,7 +15,8 @@ use Rattle.dir_lookup.specs.Reading.{Read, Lacks, Gives, reading, then_read}
 use Rattle.dir_lookup.specs.Spots.{spot_of}
 use Rattle.dir_lookup.proofs.Looking.{adds_as}
 use Rattle.dir_lookup.proofs.Readings.{reading_bind}
-use Rattle.plan_steps.specs.Looking.{Looks, LooksPassing, LooksTo, examined}
+use Rattle.disk_definitions.specs.LookedAt.{examined}
+use Rattle.plan_steps.specs.Looking.{Looks, LooksPassing, LooksTo}
 use Rattle.plan_steps.specs.Targets.{target_at}
 use Rattle.plan_steps.proofs.Examining.{examined_end, examined_on}
 use Rattle.plan_steps.proofs.Looking.{bind_end, bind_to}

@@ -1,16 +1,16 @@
 -- What a plan has examined, sectors of file bytes left out, which have no version: between two states of the sectors that are kept, in order, as far as they are kept.
-use Rattle.std.specs.Prelude.{◌≡◌, ℕ, Bool, if◌then◌else◌, Option, Some, None, Result, Ok, Err, List, [], ◌∷◌, ◌++◌, filter, map}
+use Rattle.std.specs.Prelude.{◌≡◌, ℕ, Bool, if◌then◌else◌, Option, Some, None, Result, Ok, Err, List, [], ◌∷◌, ◌++◌}
 use Rattle.disk_definitions.specs.declared.region.Region.TheVariants as region
 use Rattle.disk_definitions.specs.declared.inode.Inode.{Inode}
 use Rattle.disk_definitions.specs.Regions.{sector_of}
 use Rattle.disk_definitions.specs.Store.{StoredNode, stored}
 use Rattle.disk_definitions.specs.Held.{Segments}
-use Rattle.disk_definitions.specs.Ask.{Sector, Ask, ReadInode, bind, number_of}
+use Rattle.disk_definitions.specs.Ask.{Ask, ReadInode, bind}
 use Rattle.disk_definitions.specs.Walks.{Spot, Target, walk}
 use Rattle.disk_definitions.specs.Plans.{Plan}
 use Rattle.disk_definitions.specs.LookPlans.{plan_of_node}
-use Rattle.disk_definitions.specs.Written.{Cached, at_hand, is_held}
-use Rattle.disk_definitions.specs.Traces.{has_version, traced}
+use Rattle.disk_definitions.specs.Written.{Cached, is_held}
+use Rattle.disk_definitions.specs.LookedAt.{examined}
 use Rattle.dir_lookup.specs.Looked.{Adds}
 use Rattle.dir_lookup.specs.Spots.{has_inode, spot_of}
 use Rattle.dir_lookup.specs.declared.need.Need.{Need}
@@ -19,10 +19,6 @@ use Rattle.plan_steps.specs.Targets.{node_of}
 use Rattle.plan_steps.specs.declared.stop.Stop.{Stop}
 use Rattle.plan_steps.specs.declared.stop.Stop.TheVariants as stop
 use Rattle.plan_steps.specs.declared.target.Target.{Target as Found}
-
--- the sectors with a version at which a program looks over cached sectors, in order, before the first that isn't cached
-abbrev pub examined : {A : Type 0} → Ask A → Cached → Segments → List ℕ
-examined program cached held = map number_of (filter has_version (traced program (at_hand cached held)).looked)
 
 -- so it is where memory isn't wanting
 abbrev pub UnlessNoMemory : {A : Type 0} → Result A Stop → Type 0 → Type 0

@@ -8,7 +8,7 @@ use Rattle.plan_steps.specs.Edits.{edits_of}
 use Rattle.plan_steps.specs.Ends.{Comes, IsDone, Says}
 use Rattle.frang_base.specs.declared.op.Op.{Op}
 use Rattle.frang_base.specs.declared.op.Op.TheVariants as op
-use Rattle.plan_steps.specs.Looking.{examined}
+use Rattle.disk_definitions.specs.LookedAt.{examined}
 use Rattle.dir_lookup.proofs.Looking.{adds_as}
 use Rattle.line_plan.proofs.plan.plan_op.Goals as goal
 

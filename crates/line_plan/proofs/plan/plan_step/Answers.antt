@@ -7,7 +7,7 @@ use Rattle.dir_lookup.specs.Hands.{over, seen}
 use Rattle.dir_lookup.specs.Reading.{Gives, reading}
 use Rattle.dir_lookup.proofs.Looking.{adds_as, adds_none}
 use Rattle.plan_steps.specs.Ends.{Comes}
-use Rattle.plan_steps.specs.Looking.{examined}
+use Rattle.disk_definitions.specs.LookedAt.{examined}
 use Rattle.plan_steps.proofs.Ending.{answers}
 use Rattle.plan_steps.proofs.Examining.{examined_got}
 use Rattle.line_plan.specs.Ends.{ClearsFor}

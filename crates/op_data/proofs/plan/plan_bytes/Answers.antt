@@ -7,7 +7,7 @@ use Rattle.dir_lookup.specs.Hands.{over, seen}
 use Rattle.plan_steps.specs.Edits.{edits_of}
 use Rattle.plan_steps.specs.Ends.{Comes, IsDone, Says}
 use Rattle.dir_lookup.proofs.Looking.{adds_as}
-use Rattle.plan_steps.specs.Looking.{examined}
+use Rattle.disk_definitions.specs.LookedAt.{examined}
 use Rattle.frang_base.specs.declared.op.Op.{Op}
 use Rattle.op_data.proofs.plan.plan_bytes.Goals as goal
 

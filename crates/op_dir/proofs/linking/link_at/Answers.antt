@@ -13,7 +13,7 @@ use Rattle.plan_steps.proofs.Ending.{comes_as, refuses}
 use Rattle.op_dir.proofs.Choosing.{if_not, if_so}
 use Rattle.op_dir.proofs.Looking.{if_not_looks, if_so_looks}
 use Rattle.dir_lookup.proofs.Looking.{adds_as, adds_none}
-use Rattle.plan_steps.specs.Looking.{examined}
+use Rattle.disk_definitions.specs.LookedAt.{examined}
 use Rattle.op_dir.proofs.linking.link_at.Goals as goal
 
 pub returns-then-is_directory-clause-comes : goal.returns-then-is_directory-clause-comes

@@ -13,7 +13,7 @@ use Rattle.dir_lookup.specs.Hands.{seen}
 use Rattle.plan_steps.proofs.Ending.{comes_as, node_read, node_stops, stops_as, refuses}
 use Rattle.dir_lookup.proofs.Looking.{adds_as, adds_none}
 use Rattle.plan_steps.proofs.Looking.{then_looks}
-use Rattle.plan_steps.specs.Looking.{examined}
+use Rattle.disk_definitions.specs.LookedAt.{examined}
 use Rattle.op_dir.proofs.linking.link_to.Goals as goal
 
 pub returns-in_err-inode-in-AtGap-clause-comes : goal.returns-in_err-inode-in-AtGap-clause-comes

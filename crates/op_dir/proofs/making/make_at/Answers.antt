@@ -13,7 +13,7 @@ use Rattle.plan_steps.specs.Nodes.{node_of}
 use Rattle.plan_steps.specs.Rooms.{room_in}
 use Rattle.plan_steps.proofs.Ending.{comes_done, stops_as, refuses}
 use Rattle.dir_lookup.proofs.Looking.{adds_as, adds_none}
-use Rattle.plan_steps.specs.Looking.{examined}
+use Rattle.disk_definitions.specs.LookedAt.{examined}
 use Rattle.op_dir.proofs.making.make_at.Goals as goal
 
 pub returns-in_err-place-in-AtGap-clause-comes : goal.returns-in_err-place-in-AtGap-clause-comes

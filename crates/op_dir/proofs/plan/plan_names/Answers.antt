@@ -4,7 +4,7 @@ use Rattle.frang_base.specs.declared.op.Op.{Op}
 use Rattle.frang_base.specs.declared.op.Op.TheVariants as op
 use Rattle.disk_definitions.specs.PlanOf.{plan_of}
 use Rattle.dir_lookup.specs.Hands.{seen}
-use Rattle.plan_steps.specs.Looking.{examined}
+use Rattle.disk_definitions.specs.LookedAt.{examined}
 use Rattle.dir_lookup.proofs.Looking.{adds_as}
 use Rattle.op_dir.proofs.plan.plan_names.Goals as goal
 

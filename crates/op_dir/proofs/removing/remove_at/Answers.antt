@@ -15,7 +15,7 @@ use Rattle.op_dir.proofs.Choosing.{if_not, if_so}
 use Rattle.op_dir.proofs.Looking.{if_not_looks, if_so_looks}
 use Rattle.dir_lookup.proofs.Looking.{adds_as, adds_none}
 use Rattle.plan_steps.proofs.Looking.{looks_as, none_more, then_looks}
-use Rattle.plan_steps.specs.Looking.{examined}
+use Rattle.disk_definitions.specs.LookedAt.{examined}
 use Rattle.op_dir.proofs.removing.remove_at.Goals as goal
 
 pub returns-then-found-ne-KIND_DIRECTORY-clause-comes : goal.returns-then-found-ne-KIND_DIRECTORY-clause-comes

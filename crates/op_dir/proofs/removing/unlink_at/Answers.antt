@@ -14,7 +14,7 @@ use Rattle.plan_steps.proofs.Ending.{comes_as, node_read, node_stops, stops_as, 
 use Rattle.op_dir.proofs.Looking.{if_not_looks, if_so_looks}
 use Rattle.dir_lookup.proofs.Looking.{adds_as, adds_none}
 use Rattle.plan_steps.proofs.Looking.{then_looks}
-use Rattle.plan_steps.specs.Looking.{examined}
+use Rattle.disk_definitions.specs.LookedAt.{examined}
 use Rattle.op_dir.proofs.removing.unlink_at.Goals as goal
 
 pub returns-then-found-eq-KIND_DIRECTORY-clause-comes : goal.returns-then-found-eq-KIND_DIRECTORY-clause-comes

@@ -12,7 +12,7 @@ use Rattle.dir_lookup.specs.Spots.{spot_of}
 use Rattle.dir_lookup.specs.Hands.{seen}
 use Rattle.plan_steps.proofs.Ending.{comes_as, refuses}
 use Rattle.dir_lookup.proofs.Looking.{adds_as, adds_none}
-use Rattle.plan_steps.specs.Looking.{examined}
+use Rattle.disk_definitions.specs.LookedAt.{examined}
 use Rattle.op_dir.proofs.renaming.rename_at.Goals as goal
 
 pub returns-in-AtName-clause-comes : goal.returns-in-AtName-clause-comes

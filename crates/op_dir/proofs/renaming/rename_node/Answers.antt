@@ -13,7 +13,7 @@ use Rattle.disk_definitions.specs.Plans.{Plan}
 use Rattle.dir_lookup.proofs.Looking.{adds_as, adds_none}
 use Rattle.op_dir.proofs.Looking.{first_root, second_root}
 use Rattle.plan_steps.proofs.Looking.{then_looks}
-use Rattle.plan_steps.specs.Looking.{examined}
+use Rattle.disk_definitions.specs.LookedAt.{examined}
 use Rattle.op_dir.proofs.renaming.rename_node.Goals as goal
 
 pub returns-in_err-spot-clause-comes : goal.returns-in_err-spot-clause-comes

@@ -14,7 +14,7 @@ use Rattle.op_dir.proofs.Choosing.{if_not, if_so}
 use Rattle.op_dir.proofs.Looking.{if_not_looks, if_so_looks}
 use Rattle.disk_definitions.specs.Ask.{Ask}
 use Rattle.dir_lookup.proofs.Looking.{adds_as, adds_none}
-use Rattle.plan_steps.specs.Looking.{examined}
+use Rattle.disk_definitions.specs.LookedAt.{examined}
 use Rattle.op_dir.proofs.renaming.rename_to.Goals as goal
 
 pub returns-then-through-clause-comes : goal.returns-then-through-clause-comes

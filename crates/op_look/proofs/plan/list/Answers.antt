@@ -6,7 +6,7 @@ use Rattle.disk_definitions.specs.Ask.{Ask, ReadInode}
 use Rattle.disk_definitions.specs.Walks.{Target}
 use Rattle.disk_definitions.specs.Plans.{Plan, refused}
 use Rattle.disk_definitions.specs.LookPlans as looks
-use Rattle.plan_steps.specs.Looking.{examined}
+use Rattle.disk_definitions.specs.LookedAt.{examined}
 use Rattle.dir_lookup.specs.Reading.{reading}
 use Rattle.plan_steps.specs.declared.stop.Stop.{Stop}
 use Rattle.plan_steps.specs.declared.stop.Stop.TheVariants as stop

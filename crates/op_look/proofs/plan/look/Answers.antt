@@ -1,7 +1,7 @@
 -- By the operation.
 use Rattle.std.proofs.Common.{sym, subst, ap}
 use Rattle.disk_definitions.specs.PlanOf.{plan_of}
-use Rattle.plan_steps.specs.Looking.{examined}
+use Rattle.disk_definitions.specs.LookedAt.{examined}
 use Rattle.dir_lookup.specs.Reading.{reading}
 use Rattle.dir_lookup.proofs.Looking.{adds_as}
 use Rattle.plan_steps.specs.Ends.{Says}

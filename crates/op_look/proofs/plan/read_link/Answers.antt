@@ -6,7 +6,7 @@ use Rattle.disk_definitions.specs.Ask.{Ask, ReadInode}
 use Rattle.disk_definitions.specs.Walks.{Target}
 use Rattle.disk_definitions.specs.Plans.{Plan, refused, refuse}
 use Rattle.disk_definitions.specs.LookPlans as looks
-use Rattle.plan_steps.specs.Looking.{examined}
+use Rattle.disk_definitions.specs.LookedAt.{examined}
 use Rattle.dir_lookup.specs.Reading.{reading, Gives}
 use Rattle.plan_steps.specs.Ends.{Says}
 use Rattle.plan_steps.specs.Targets.{FindsInode, FindsTarget, node_of}

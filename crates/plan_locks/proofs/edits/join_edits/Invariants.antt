@@ -2,7 +2,7 @@
 use Rattle.std.proofs.Common.{◌≡◌, drop}
 use Rattle.core_definitions.specs.Sets.{joined_all}
 use Rattle.plan_steps.specs.Edits.{edits_of}
-use Rattle.line_locks.specs.Found.{edit_locks, owns_at_hand}
+use Rattle.disk_definitions.specs.FoundLocks.{edit_locks, owns_at_hand}
 use Rattle.plan_locks.proofs.edits.join_edits.Given as goal
 
 abbrev pub invariant-loop-edit : goal.invariant-loop-edit

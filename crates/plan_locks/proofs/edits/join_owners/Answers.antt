@@ -2,7 +2,7 @@
 use Rattle.std.proofs.Common.{◌<◌, ℕ, Bool, filter, length, sym, ◌∙◌}
 use Rattle.core_definitions.specs.Sets.{joined_all}
 use Rattle.disk_definitions.specs.Plans.{sole_nodes}
-use Rattle.line_locks.specs.Found.{owns_at_hand}
+use Rattle.disk_definitions.specs.FoundLocks.{owns_at_hand}
 use Rattle.plan_locks.proofs.Joined.{owner_joins, owner_stays}
 use Rattle.plan_locks.proofs.edits.join_owners.Goals as goal
 use Rattle.plan_locks.proofs.edits.join_owners.Goals.{then-owns+in_ok-join, else-owns}

@@ -2,7 +2,7 @@
 use Rattle.std.proofs.Common.{◌≡◌, drop, filter}
 use Rattle.core_definitions.specs.Sets.{joined_all}
 use Rattle.disk_definitions.specs.Plans.{sole_nodes}
-use Rattle.line_locks.specs.Found.{owns_at_hand}
+use Rattle.disk_definitions.specs.FoundLocks.{owns_at_hand}
 use Rattle.plan_locks.proofs.edits.join_owners.Given as goal
 
 abbrev pub invariant-loop-node : goal.invariant-loop-node

@@ -2,7 +2,8 @@
 use Rattle.std.proofs.lemmas.Result.{IfOk-weaker}
 use Rattle.core_definitions.specs.Sets.{LockSet, joined_all}
 use Rattle.std.proofs.Common.{◌≡◌, []}
-use Rattle.line_locks.specs.Found.{clear_locks, nodes_in}
+use Rattle.disk_definitions.specs.LookedAt.{nodes_in}
+use Rattle.disk_definitions.specs.FoundLocks.{clear_locks}
 use Rattle.plan_locks.specs.Needs.{ClearIsNeeded}
 use Rattle.plan_locks.specs.Seen.{numbers}
 use Rattle.plan_locks.proofs.Needed.{clear_needed}

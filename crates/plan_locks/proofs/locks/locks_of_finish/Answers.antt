@@ -3,7 +3,8 @@ use Rattle.std.proofs.Common.{◌≡◌, []}
 use Rattle.std.proofs.lemmas.Result.{IfOk-weaker}
 use Rattle.core_definitions.specs.Sets.{LockSet, joined_all}
 use Rattle.plan_steps.specs.Edits.{edits_of}
-use Rattle.line_locks.specs.Found.{finish_locks, nodes_in, owns_at_hand}
+use Rattle.disk_definitions.specs.LookedAt.{nodes_in}
+use Rattle.disk_definitions.specs.FoundLocks.{finish_locks, owns_at_hand}
 use Rattle.plan_locks.specs.Needs.{FinishIsNeeded, MovesAreSole}
 use Rattle.plan_locks.specs.Seen.{numbers}
 use Rattle.plan_locks.proofs.Needed.{finish_needed, moves_sole}

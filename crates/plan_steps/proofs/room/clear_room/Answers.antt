@@ -3,7 +3,7 @@ use Rattle.std.proofs.Common.{[], sym, subst, ap}
 use Rattle.disk_definitions.specs.Plans.{finish_in}
 use Rattle.dir_lookup.specs.Hands.{seen}
 use Rattle.dir_lookup.proofs.Looking.{adds_as, adds_none}
-use Rattle.plan_steps.specs.Looking.{examined}
+use Rattle.disk_definitions.specs.LookedAt.{examined}
 use Rattle.plan_steps.specs.Rooms.{ClearsRoom, room_in}
 use Rattle.plan_steps.proofs.room.clear_room.Goals as goal
 

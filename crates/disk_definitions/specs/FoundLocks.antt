@@ -1,46 +1,20 @@
 -- The locks of a line, found without its plan: by the inodes at which it looked and, where it is finished, by its reply and its edits, or, where it has a
--- block cleared, by the operation to which its walks lead.
-use Rattle.std.specs.Prelude.{ℕ, ◌-◌, ◌/◌, Bool, true, false, if◌then◌else◌, length, Option, Some, None, List, [], ◌∷◌, ◌++◌, filter, fold, slice_index}
+-- block cleared, by the operation to which its walks lead. They are as good as the plan's own over the disk of a tree, and code finds them, since no plan in code
+-- hands out locks.
+use Rattle.std.specs.Prelude.{ℕ, ◌-◌, ◌/◌, Bool, true, false, if◌then◌else◌, length, List, [], ◌∷◌, ◌++◌, filter, slice_index}
 use Rattle.std.specs.Map.{keys_of}
 use Rattle.frang_base.specs.declared.limits.TheConstants.{SEGMENT_BLOCKS, SEGMENT_INODES}
 use Rattle.frang_base.specs.declared.op.Op.{Op}
 use Rattle.frang_base.specs.declared.op.Op.TheVariants as op
 use Rattle.frang_base.specs.declared.reply.Reply.{Reply}
-use Rattle.disk_definitions.specs.declared.region.Region.{Region}
-use Rattle.disk_definitions.specs.declared.region.Region.TheVariants as region
-use Rattle.disk_definitions.specs.Regions.{region_of}
+use Rattle.tree_definitions.specs.Perform.{Step, Goes, Stops, Resolved}
 use Rattle.disk_definitions.specs.Edits.{Edit, SetInode, SetBit, SetUse, SetPlace, SetLarge, SetBytes, SetLargeBytes}
 use Rattle.disk_definitions.specs.Held.{Segments}
-use Rattle.disk_definitions.specs.Ask.{Sector, InodeAt, DirectoryAt, SegmentAt, BytesAt, LargeAt}
+use Rattle.disk_definitions.specs.Ask.{Met}
+use Rattle.disk_definitions.specs.Ask.Met.{Needs, Has}
 use Rattle.disk_definitions.specs.Plans.{Lock, shared_nodes, sole_nodes, sole_segments, says_full}
 use Rattle.disk_definitions.specs.Written.{Cached, inode_at_hand}
 use Rattle.disk_definitions.specs.CoversAtHand.{has_small}
-
--- ---- nodes
-
--- those whose inodes are among these sectors, in order
-abbrev pub nodes_of : List Sector → List ℕ
-nodes_of [] = []
-nodes_of (InodeAt inode ∷ sectors) = inode ∷ nodes_of sectors
-nodes_of (DirectoryAt block part ∷ sectors) = nodes_of sectors
-nodes_of (SegmentAt segment ∷ sectors) = nodes_of sectors
-nodes_of (BytesAt block part ∷ sectors) = nodes_of sectors
-nodes_of (LargeAt segment part ∷ sectors) = nodes_of sectors
-
--- the same by the numbers of sectors
-abbrev pub with_node_in : List ℕ → Option Region → List ℕ
-with_node_in nodes (Some (region.Inode inode)) = nodes ++ inode ∷ []
-with_node_in nodes _ = nodes
-
-abbrev pub with_node : ℕ → List ℕ → ℕ → List ℕ
-with_node segments nodes number = with_node_in nodes (region_of segments number)
-
-abbrev pub nodes_in : ℕ → List ℕ → List ℕ
-nodes_in segments numbers = fold (with_node segments) [] numbers
-
--- the one that lies so many before the last
-abbrev pub from_end : List ℕ → ℕ → ℕ
-from_end nodes back = slice_index nodes (length nodes - 1 - back)
 
 -- ---- a finished line: a node is needed shared where its inode was looked at, and sole where it is written; a segment is needed sole where a bit of its
 -- own is written, and each held one where an allocation found nothing
@@ -73,6 +47,10 @@ finish_locks owns held nodes reply edits = shared_nodes nodes ++ edit_locks owns
 -- ---- a line that has a block cleared: its directory and the node that gets the name, or the directory that loses it, are needed sole, and the segments of
 -- the block and of a new node
 
+-- the one that lies so many before the last
+abbrev pub from_end : List ℕ → ℕ → ℕ
+from_end nodes back = slice_index nodes (length nodes - 1 - back)
+
 -- how many nodes after the other one the last one was looked at: of a rename each name of the second path was looked up in a directory of its own
 abbrev pub nodes_behind : Op → ℕ
 nodes_behind (op.Rename path to) = length to
@@ -95,3 +73,12 @@ clear_soles other last made block = sole_nodes (other ∷ last ∷ []) ++ sole_s
 -- of an operation over paths without links
 abbrev pub clear_locks : Op → List ℕ → ℕ → List Lock
 clear_locks operation nodes block = shared_nodes nodes ++ clear_soles (from_end nodes (nodes_behind operation)) (from_end nodes 0) (makes_node operation) block
+
+-- by what its walks come to; no plan has a block cleared before they have come to an operation
+abbrev pub step_locks : List ℕ → ℕ → Step → List Lock
+step_locks nodes block (Goes over) = clear_locks over nodes block
+step_locks nodes block (Stops reply) = []
+
+abbrev pub cleared_locks : List ℕ → ℕ → Met Resolved → List Lock
+cleared_locks nodes block (Needs sector) = []
+cleared_locks nodes block (Has walked) = step_locks nodes block walked.step
