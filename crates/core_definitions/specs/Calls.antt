@@ -1,6 +1,5 @@
 -- What an event asks of the outside, and what is an answer to it.
 use Rattle.std.specs.Prelude.{◌≡◌, ◌⊎◌, ℕ, Bool, Option, Some, None, List, [], ◌∷◌}
-use Rattle.std.specs.List.{slice_get}
 use Rattle.frang_outside.specs.declared.act.Act.{Act}
 use Rattle.frang_outside.specs.declared.act.Act.TheVariants as act
 use Rattle.frang_outside.specs.declared.act.Put.{Put}

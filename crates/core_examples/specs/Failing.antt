@@ -1,9 +1,9 @@
 -- Runs in which calls fail: what is heard then, and an order in which a doom or an answer that may come comes at once.
-use Rattle.std.specs.Prelude.{ℕ, zero, suc, ◌==◌, Bool, true, false, Option, Some, None, List, [], ◌∷◌, find}
+use Rattle.std.specs.Prelude.{ℕ, zero, suc, Bool, true, false, Option, Some, None, List, [], find}
 use Rattle.std.specs.List.{slice_get}
 use Rattle.std.specs.Option.{option_or}
 use Rattle.core_definitions.specs.Enabled.{enabled}
-use Rattle.core_definitions.specs.Events.{Event, Answer, Doom, Arrive, Heard, Nothing, Got, GetFailed, Written, Late, PutFailed}
+use Rattle.core_definitions.specs.Events.{Event, Answer, Doom, Arrive, Heard, Got, GetFailed, Written, PutFailed}
 use Rattle.core_definitions.specs.Runs.{State, next}
 use Rattle.core_examples.specs.Driving.{Driven, behind, hears}
 

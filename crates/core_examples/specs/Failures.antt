@@ -16,8 +16,8 @@ use Rattle.sector_bytes.specs.Bytes.{zeros}
 use Rattle.sector_bytes.specs.Changes.{changed}
 use Rattle.disk_definitions.specs.Frames.{frame_read}
 use Rattle.core_definitions.specs.Events.{Event, Begin, Ask, Fetch, Again, Commit, Answer, Issue, Doom, Arrive, Die, Tick, Recover, Load, Look, Finish, Read, Show, End}
-use Rattle.core_definitions.specs.Runs.{State}
-use Rattle.core_examples.specs.Choices.{at_tick, dead, having, idle, up}
+use Rattle.core_definitions.specs.Runs.{State, peek_failed}
+use Rattle.core_examples.specs.Choices.{at_tick, dead, having, idle, open_now, up}
 use Rattle.core_examples.specs.Choosing.{tale_of}
 use Rattle.core_examples.specs.Driving.{Driven, filed_opening, line, opening, says, story_of}
 use Rattle.core_examples.specs.Failing.{driven_promptly, no_get, no_put}
@@ -164,6 +164,11 @@ host_put_run = driven_promptly (record { get = no_get; put = first_put }) 5 (rec
 pub a_failed_put_of_the_host_ends_it : host_put_run.events ≡ Look 255 10737418241 ∷ Issue 255 10737418241 ∷ Arrive 0 ∷ []
 unfolding no_clerks no_logs any_server zeros changed frame_read
 a_failed_put_of_the_host_ends_it = refl
+
+-- a sector at which it peeks beside the events
+pub a_failed_peek_ends_it : open_now (peek_failed idle) ≡ []
+unfolding no_clerks no_logs any_server zeros
+a_failed_peek_ends_it = refl
 
 -- ---- a failed put that leaves the new sector: its server dies, and what the record in its log says is kept
 

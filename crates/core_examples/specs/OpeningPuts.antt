@@ -10,7 +10,7 @@ use Rattle.disk_definitions.specs.declared.param.Param.{Param}
 use Rattle.disk_definitions.specs.FreshDisk.{fresh_disk}
 use Rattle.disk_definitions.specs.Params.{param_bytes}
 use Rattle.core_definitions.specs.Cores.{first_core, stamp_of}
-use Rattle.core_definitions.specs.Opening.{IsStart, OnFresh, disk_put, fresh_puts, fresh_start, image_puts, moment_of, opening_deeds, opening_put}
+use Rattle.core_definitions.specs.Opening.{IsStart, OnFresh, disk_put, fresh_puts, fresh_start, image_puts, moment_of, opening_put}
 use Rattle.core_definitions.specs.Runs.{acts_of, first_state}
 use Rattle.core_definitions.specs.Scripts.{host_party}
 use Rattle.core_definitions.specs.Settings.{setting_of}

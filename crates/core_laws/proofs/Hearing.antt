@@ -1,15 +1,15 @@
 -- What is heard of an event answers what it asks, and the record has what was asked and answered.
-use Rattle.std.proofs.Common.{◌≡◌, ℕ, ◌⊎◌, inl, inr, ◌∙◌, List, [], ◌∷◌, Option, Some, None, refl}
+use Rattle.std.proofs.Common.{◌≡◌, ℕ, inl, inr, ◌∙◌, List, [], ◌∷◌, Option, Some, None, refl}
 use Rattle.std.specs.List.{slice_get}
 use Rattle.std.specs.Option.{option_map}
 use Rattle.frang_base.specs.declared.reply.Reply.{Reply}
 use Rattle.frang_base.specs.declared.said.Said.{Said}
 use Rattle.sector_bytes.specs.SectorMaps.{value_at}
 use Rattle.sector_bytes.specs.Sectors.{Sectors}
-use Rattle.core_definitions.specs.Calls.{Answers, Get, acts_by, arrival_call, call_of, fails_by, load_call, say_call}
+use Rattle.core_definitions.specs.Calls.{Answers, Get, acts_by, arrival_call, fails_by, load_call, say_call}
 use Rattle.core_definitions.specs.Cores.{Core, due_at, stage, tree_lines}
-use Rattle.core_definitions.specs.Effects.{Deed, Made, MayArrive, MayGet, MayHear, MayLoad, Says, deeds_of, deeds_of_arrival, reply_by, says_answer, says_node, says_recovered}
-use Rattle.core_definitions.specs.Events.{Event, Begin, Ask, Fetch, Again, Clear, Commit, Answer, Give, Issue, Doom, Resume, Arrive, Lose, Die, Renew, Tick, Recover, Load, Look, Finish, HostLine, Close, Read, Show, End, Heard, Nothing, Got, GetFailed, Written, Late, PutFailed}
+use Rattle.core_definitions.specs.Effects.{Deed, Made, MayArrive, MayGet, MayLoad, Says, deeds_of, deeds_of_arrival, reply_by, says_answer, says_node, says_recovered}
+use Rattle.core_definitions.specs.Events.{Begin, Ask, Fetch, Again, Clear, Commit, Answer, Give, Issue, Doom, Resume, Arrive, Lose, Die, Renew, Tick, Recover, Load, Look, Finish, HostLine, Close, Read, Show, End, Heard, Nothing, Got, GetFailed, Written, Late, PutFailed}
 use Rattle.core_definitions.specs.Faults.{failing}
 use Rattle.core_definitions.specs.Flights.{Flight}
 use Rattle.core_definitions.specs.Lines.{Under}

@@ -19,7 +19,7 @@ use Rattle.sector_bytes.proofs.MapLaws.{absent}
 use Rattle.sector_bytes.specs.Blocks.{Block, zero_block}
 use Rattle.sector_bytes.specs.Bytes.{are_zero, zeros}
 use Rattle.sector_bytes.specs.SectorMaps.{Ascend, value_at}
-use Rattle.sector_bytes.specs.Sectors.{SameSectors, Sectors, sectors_of}
+use Rattle.sector_bytes.specs.Sectors.{Sectors, sectors_of}
 use Rattle.disk_definitions.specs.declared.param.Param.{Param}
 use Rattle.disk_definitions.specs.declared.region.Region.TheVariants as region
 use Rattle.disk_definitions.specs.Bitmaps.{bitmap_bytes}
@@ -28,7 +28,7 @@ use Rattle.disk_definitions.specs.Inodes.{inode_bytes}
 use Rattle.disk_definitions.specs.Params.{param_bytes, param_in}
 use Rattle.disk_definitions.specs.Regions.{region_of, sector_of}
 use Rattle.disk_definitions.specs.Replay.{is_log, replayed, with_logs}
-use Rattle.core_definitions.specs.Opening.{IsStart, MayOpen, OnFresh, OnImage, Puts, Start, disk_put, fresh_puts, image_puts, is_put, next_param, put_over}
+use Rattle.core_definitions.specs.Opening.{MayOpen, OnFresh, OnImage, Puts, disk_put, is_put, next_param, put_over}
 use Rattle.core_laws.specs.Openings.{FreshDisksArePut, ImagesArePut, LogsReadAsZero}
 
 -- ---- one sector
