@@ -1,20 +1,17 @@
 -- Covers and marks are keys, which are others for other sectors.
-use Rattle.std.proofs.Common.{◌≡◌, ℕ, Bool, true, false, if◌then◌else◌, Option, Some, None, refl, arith}
-use Rattle.std.proofs.lemmas.Bool.Decides.{nat_tests}
+use Rattle.std.proofs.Common.{◌≡◌, ℕ, Bool, true, false, if◌then◌else◌, Option, Some, None, refl}
 use Rattle.std.specs.BTreeMap.{is_at}
 use Rattle.std.specs.Option.{option_map}
 use Rattle.std.specs.Ordering.{nat_cmp, ordering_then, is_eq}
 use Rattle.std.specs.declared.cmp.Ordering.{Ordering}
 use Rattle.std.specs.declared.cmp.Ordering.TheVariants.{Less, Equal, Greater}
-use Rattle.frang_base.specs.declared.lock.LockId.{LockId}
-use Rattle.frang_base.specs.declared.lock.LockId.TheVariants.{Log, Segment, Node}
-use Rattle.frang_base.specs.Locks.{same_lock}
 use Rattle.frang_base.proofs.Tests.{both_equal}
 use Rattle.lock_definitions.specs.Order.{lock_cmp}
 use Rattle.lock_definitions.proofs.LockOrder.{found_lock}
 use Rattle.flush_order.specs.Marks.{mark_cmp}
 use Rattle.sorted_entries.specs.Places.{IsKeyOrder}
 use Rattle.sector_bytes.proofs.MapLaws.{found}
+use Rattle.cache_definitions.specs.declared.dirt.Dirt.{Dirt}
 use Rattle.clerk_cache.specs.declared.covered.Covered.{Covered}
 use Rattle.clerk_cache.specs.declared.state.SectorState.{SectorState}
 use Rattle.clerk_cache.specs.Covers.{cover_cmp, cover_total, cover_key}
@@ -31,18 +28,6 @@ found_cover a b e =
 pub covers : IsKeyOrder cover_cmp
 covers = record { total = cover_total; exact = found_cover }
 
--- the order of locks tells whether they are one
-pub same : (a b : LockId) → same_lock b a ≡ is_eq (lock_cmp a b)
-same (Log a) (Log b) = grind (arith, nat_tests)
-same (Log a) (Segment b) = refl
-same (Log a) (Node b) = refl
-same (Segment a) (Log b) = refl
-same (Segment a) (Segment b) = grind (arith, nat_tests)
-same (Segment a) (Node b) = refl
-same (Node a) (Log b) = refl
-same (Node a) (Segment b) = refl
-same (Node a) (Node b) = grind (arith, nat_tests)
-
 -- ---- other sectors have other keys
 
 other_then : (o p : Ordering) → is_eq p ≡ false → is_eq (ordering_then o p) ≡ false
@@ -52,12 +37,12 @@ other_then Greater p e = refl
 
 module _ (sector : ℕ) (state : SectorState) (entry : ℕ × SectorState) (other : is_at (nat_cmp sector) entry.0 ≡ false) where
   pub other_marks : AreOther mark_cmp (state_mark (sector, state)) (state_mark entry)
-  other_marks = go state.mark entry.1.mark
+  other_marks = go state.dirt entry.1.dirt
     where
-      go : (m n : Option ℕ) → AreOther mark_cmp (option_map (λ mark. record { sector = record { 0 = sector }; mark = mark }) m) (option_map (λ mark. record { sector = record { 0 = entry.0 }; mark = mark }) n)
-      go None n = tt
-      go (Some m) None = tt
-      go (Some m) (Some n) = other_then (nat_cmp m n) (nat_cmp sector entry.0) other
+      go : (d e : Option Dirt) → AreOther mark_cmp (option_map (λ dirt. record { sector = record { 0 = sector }; mark = dirt.mark }) d) (option_map (λ dirt. record { sector = record { 0 = entry.0 }; mark = dirt.mark }) e)
+      go None e = tt
+      go (Some d) None = tt
+      go (Some d) (Some e) = other_then (nat_cmp d.mark e.mark) (nat_cmp sector entry.0) other
 
   pub other_covers : (test : SectorState → Bool) → AreOther cover_cmp (cover_key test (sector, state)) (cover_key test entry)
   other_covers test = go (test state) (test entry.1)

@@ -12,7 +12,7 @@ use Rattle.sector_bytes.specs.Blocks.{Block}
 use Rattle.sector_bytes.specs.SectorMaps.{value_at, with_value, without, adjusted, Ascend}
 use Rattle.sector_bytes.proofs.MapLaws.{with_value_there, ascend_with, ascend_without, ascend_adjusted}
 use Rattle.clerk_cache.specs.declared.state.SectorState.{SectorState}
-use Rattle.clerk_cache.specs.Cached.{block_at, blocks_of}
+use Rattle.cache_definitions.specs.Caches.{block_at, blocks_of}
 use Rattle.clerk_cache.specs.Kept.{cached_of, state_of, joined, state_at, AreAlike, AreKept}
 
 abbrev pub Blocks : Type 0

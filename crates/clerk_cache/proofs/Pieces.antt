@@ -1,7 +1,7 @@
 -- The marks of a piece, and of those behind it.
 use Rattle.std.proofs.Common.{◌≡◌, ℕ, ◌+◌, ◌<◌, ◌++◌, ◌∷◌, [], List, length, get_or, drop, Option, Some, None, refl, ap, sym, ◌∙◌, append_assoc}
 use Rattle.std.proofs.lemmas.List.{drop_more}
-use Rattle.std.specs.List.{filter_map, cons_option}
+use Rattle.std.specs.List.{cons_option}
 use Rattle.flush_order.specs.declared.Mark.{Mark}
 use Rattle.ordered_map.specs.Chunks.{joined}
 use Rattle.clerk_cache.specs.Kept.{state_mark, state_marks}

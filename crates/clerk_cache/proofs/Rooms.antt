@@ -1,6 +1,5 @@
 -- A cache has room for a sector where both its maps have.
 use Rattle.std.proofs.Common.{◌≡◌, ℕ, if◌then◌else◌, List, IsSome, is_some, ap, ◌∙◌}
-use Rattle.std.specs.Option.{option_map}
 use Rattle.frang_base.proofs.Tests.{is_some-option_map}
 use Rattle.sector_bytes.specs.SectorMaps.{value_at, room_for}
 use Rattle.clerk_cache.specs.Kept.{joined, AreAlike}

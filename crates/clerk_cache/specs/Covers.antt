@@ -1,17 +1,14 @@
 -- Sectors in order of the locks that cover them.
-use Rattle.std.specs.Prelude.{ℕ, Bool, true, is_some, if◌then◌else◌, List, find, Option, Some, None}
+use Rattle.std.specs.Prelude.{ℕ, Bool, true, if◌then◌else◌, List, Option, Some, None}
 use Rattle.std.specs.Cmp.{IsTotalOrder, nat_cmp_total, on_total, then_total}
-use Rattle.std.specs.Option.{option_map}
 use Rattle.std.specs.Ordering.{nat_cmp, on, then_cmp}
 use Rattle.std.specs.declared.cmp.Ordering.{Ordering}
 use Rattle.frang_base.specs.declared.lock.LockId.{LockId}
-use Rattle.frang_base.specs.Locks.{same_lock}
-use Rattle.lock_definitions.specs.Order.{lock_cmp}
+use Rattle.lock_definitions.specs.Order.{is_lock, lock_cmp}
 use Rattle.lock_definitions.proofs.LockOrder.{lock_total}
 use Rattle.ordered_map.specs.Entries.{first_from}
 use Rattle.clerk_cache.specs.declared.covered.Covered.{Covered}
 use Rattle.clerk_cache.specs.declared.state.SectorState.{SectorState}
-use Rattle.clerk_cache.specs.Kept.{is_state_under}
 
 -- by the locks, and those of one lock by the sectors
 abbrev pub cover_cmp : Covered → Covered → Ordering
@@ -29,19 +26,11 @@ cover_key test entry = if test entry.1 then Some (record { cover = entry.1.cover
 abbrev pub is_any : SectorState → Bool
 is_any state = true
 
--- the sector is dirty
-abbrev pub is_dirty : SectorState → Bool
-is_dirty state = is_some state.mark
-
 -- the sector of an entry, where it is under this lock
 abbrev pub sector_under : LockId → Option (Covered × Unit {0}) → Option ℕ
 sector_under lock None = None
-sector_under lock (Some entry) = if same_lock entry.0.cover lock then Some entry.0.sector else None
+sector_under lock (Some entry) = if is_lock lock entry.0.cover then Some entry.0.sector else None
 
 -- the first sector under a lock
 abbrev pub first_of : LockId → List (Covered × Unit {0}) → Option ℕ
 first_of lock entries = sector_under lock (first_from cover_cmp entries (record { cover = lock; sector = 0 }))
-
--- the first sector under a lock of those whose states are kept
-abbrev pub first_under_state : LockId → List (ℕ × SectorState) → Option ℕ
-first_under_state lock states = option_map (λ entry. entry.0) (find (λ entry. is_state_under lock entry.1) states)

@@ -7,9 +7,9 @@ use Rattle.sector_bytes.specs.SectorMaps.{Ascend, Spacious}
 use Rattle.ordered_map.specs.Entries.{Ordered}
 use Rattle.clerk_cache.specs.declared.covered.Covered.{Covered}
 use Rattle.clerk_cache.specs.declared.state.SectorState.{SectorState}
-use Rattle.clerk_cache.specs.Kept.{state_mark}
+use Rattle.clerk_cache.specs.Kept.{is_state_dirty, state_mark}
 use Rattle.clerk_cache.specs.Keys.{keyed}
-use Rattle.clerk_cache.specs.Covers.{cover_cmp, cover_key, is_any, is_dirty}
+use Rattle.clerk_cache.specs.Covers.{cover_cmp, cover_key, is_any}
 
 -- how many entries a map has room for in all
 abbrev pub most_of : {K V : Type 0} → Ordered K V → ℕ
@@ -27,7 +27,7 @@ pub record AreIndexed (states : List (ℕ × SectorState)) (by_mark : Ordered Ma
   pub ascend : Ascend states
   pub marks : by_mark.entries ≡ keyed mark_cmp state_mark states
   pub covers : by_cover.entries ≡ keyed cover_cmp (cover_key is_any) states
-  pub dirty : dirty_ones.entries ≡ keyed cover_cmp (cover_key is_dirty) states
+  pub dirty : dirty_ones.entries ≡ keyed cover_cmp (cover_key is_state_dirty) states
   pub mark_room : length states ≤ most_of by_mark
   pub cover_room : length states ≤ most_of by_cover
   pub dirty_room : length states ≤ most_of dirty_ones

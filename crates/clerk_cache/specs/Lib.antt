@@ -1,7 +1,6 @@
-pub mod Cached
-pub mod Changing
 pub mod Covers
 pub mod Dropping
 pub mod Indexing
 pub mod Kept
 pub mod Keys
+pub mod Marks

@@ -1,30 +1,33 @@
 // The cached sectors.
-ghost use Rattle.std.specs.Prelude.{◌≡◌, ◌+◌, ◌<◌, ◌≤◌, ◌++◌, [], not, is_some, true, IsOk, IsSome, IfOk, OnOk};
+ghost use Rattle.std.specs.Prelude.{◌≡◌, ◌+◌, ◌<◌, ◌≤◌, ◌++◌, [], not, is_some, true, false, IsOk, IsSome, IfOk, OnOk};
 ghost use Rattle.std.specs.List.Sorted.{IsStrictlySortedBy};
-ghost use Rattle.std.specs.Option.{option_copied, option_map};
+ghost use Rattle.std.specs.Option.{option_and_then, option_copied, option_map};
 ghost use Rattle.std.specs.Ordering.{nat_cmp, on};
 ghost use Rattle.std.specs.Str.{bytes_eq};
+ghost use Rattle.sector_bytes.specs.Blocks.{zero_block};
 ghost use Rattle.sector_bytes.specs.Changes.{is_change};
 ghost use Rattle.sector_bytes.specs.SectorMaps.{Ascend, value_at, with_value, without, adjusted, room_for};
 ghost use Rattle.meta_version.specs.Updates.{IsOlder};
 ghost use Rattle.flush_order.specs.Marks.{next_reached, sector_reached};
-ghost use Rattle.clerk_cache.specs.Cached.{block_at, cover_at, blocks_of, marks_of};
+ghost use Rattle.cache_definitions.specs.Caches.{any_cached, block_at, blocks_of, clean, cleaned, cover_at, dirty, dropped, first_cached, forgotten, is_dirty, is_dirty_bytes_at, is_dirty_under, is_under, mark_at, still_has, with_change, with_cover, with_written};
 ghost use Rattle.ordered_map.specs.Chunks.{joined};
 ghost use Rattle.clerk_cache.specs.Kept.{cached_of, state_at, state_marks};
-ghost use Rattle.clerk_cache.specs.Changing.{clean, dirty, holds, with_change, with_written, with_cover};
-ghost use Rattle.clerk_cache.specs.Dropping.{first_dirty, first_under, dropped, forgotten, DropOutcome};
+ghost use Rattle.clerk_cache.specs.Marks.{marks_of};
+ghost use Rattle.clerk_cache.specs.Dropping.{numbers_of, DropOutcome};
 
 use crate::state::SectorState;
 use crate::states::States;
+use cache_definitions::Dirt;
 use flush_order::Mark;
 use frang_base::{Block, Change, LockId, NoMemory, Sector};
 use meta_version::Sectors;
 use ordered_map::{Chunk, Place};
+use sector_bytes::zero_block;
 use std::alloc::Global;
 use std::marker::Model;
 
 /// The cached sectors of a server. Contracts see them as entries, a sector's number with its block, the lock that covers it and,
-/// where it is dirty, its mark, ascending by sector, and for how many more entries there is room.
+/// where it is dirty, its mark and whether it is one of file bytes, ascending by sector, and for how many more entries there is room.
 pub struct Cache {
     sectors: Sectors,
     states: States,
@@ -44,9 +47,9 @@ impl Drop for Cache {
 
 impl Model for Cache {
     ghost use Rattle.sector_bytes.specs.SectorMaps.{Spacious};
-    ghost use Rattle.clerk_cache.specs.Cached.{Cached};
+    ghost use Rattle.cache_definitions.specs.Caches.{CachedSector};
 
-    ghost Value = { Spacious Cached };
+    ghost Value = { Spacious CachedSector };
 
     ghost use Rattle.clerk_cache.specs.Kept.{cache_of, AreKept};
 
@@ -76,8 +79,9 @@ fn add_marks(marks: &mut Vec<Mark>, states: &[(u64, SectorState)]) -> Result<(),
     ensures { OnOk result (marks.new.items ≡ marks.old.items ++ state_marks states.now) }
 {
     for entry in states {
-        if let Some(mark) = entry.1.mark {
+        if let Some(dirt) = entry.1.dirt {
             let sector = Sector(entry.0);
+            let mark = dirt.mark;
             marks.push(Mark { sector, mark })?;
         }
     }
@@ -153,6 +157,36 @@ impl Cache {
         self.state(sector).map(|state| state.cover)
     }
 
+    // The dirt of a sector. `None` exactly where it isn't dirty.
+    fn dirt(&self, sector: Sector) -> Option<Dirt>
+        ensures { result ≡ option_and_then (λ cached. cached.dirt) (value_at self.now.entries sector.0) }
+    {
+        match self.state(sector) {
+            Some(state) => state.dirt,
+            None => None,
+        }
+    }
+
+    /// The mark of a sector. `None` exactly where it isn't dirty.
+    pub fn mark(&self, sector: Sector) -> Option<u64>
+        ensures { result ≡ mark_at self.now.entries sector.0 }
+    {
+        match self.dirt(sector) {
+            Some(dirt) => Some(dirt.mark),
+            None => None,
+        }
+    }
+
+    /// The sector is dirty, and one of file bytes.
+    pub fn is_bytes(&self, sector: Sector) -> bool
+        ensures { result ≡ is_dirty_bytes_at self.now.entries sector.0 }
+    {
+        match self.dirt(sector) {
+            Some(dirt) => dirt.is_bytes,
+            None => false,
+        }
+    }
+
     // Caches a sector with this block and the rest.
     fn set(&mut self, sector: Sector, block: Block, state: SectorState)
         requires { room_for self.old.entries sector.0 ≤ self.old.spare }
@@ -178,22 +212,39 @@ impl Cache {
         ensures entries { self.new.entries ≡ with_value self.old.entries sector.0 (clean block cover) }
         ensures spare { self.new.spare + room_for self.old.entries sector.0 ≡ self.old.spare }
     {
-        self.set(sector, block, SectorState { cover, mark: None });
+        self.set(sector, block, SectorState { cover, dirt: None });
     }
 
-    /// Caches a sector with bytes that the disk doesn't have yet, with this mark and under this lock. The sector is cached already, or
-    /// there is room. It takes no memory.
+    /// Caches a sector of file bytes that the disk doesn't have yet, with this mark and under this lock. The sector is cached already,
+    /// or there is room. It takes no memory.
     pub fn set_bytes(&mut self, sector: Sector, block: Block, mark: u64, cover: LockId)
         requires { room_for self.old.entries sector.0 ≤ self.old.spare }
-        ensures entries { self.new.entries ≡ with_value self.old.entries sector.0 (dirty block mark cover) }
+        ensures entries { self.new.entries ≡ with_value self.old.entries sector.0 (dirty block cover mark true) }
         ensures spare { self.new.spare + room_for self.old.entries sector.0 ≡ self.old.spare }
     {
-        let mark = Some(mark);
-        self.set(sector, block, SectorState { cover, mark });
+        let dirt = Some(Dirt {
+            mark,
+            is_bytes: true,
+        });
+        self.set(sector, block, SectorState { cover, dirt });
     }
 
-    /// Lays a change over its sector, which is cached and older than the change. The sector is then dirty with this mark, and under
-    /// this lock. It takes no memory.
+    /// Caches a sector of metadata as zeros that the disk doesn't have yet, with this mark and under this lock, whatever was cached of
+    /// it. The sector is cached already, or there is room. It takes no memory.
+    pub fn set_zeros(&mut self, sector: Sector, mark: u64, cover: LockId)
+        requires { room_for self.old.entries sector.0 ≤ self.old.spare }
+        ensures entries { self.new.entries ≡ with_value self.old.entries sector.0 (dirty zero_block cover mark false) }
+        ensures spare { self.new.spare + room_for self.old.entries sector.0 ≡ self.old.spare }
+    {
+        let dirt = Some(Dirt {
+            mark,
+            is_bytes: false,
+        });
+        self.set(sector, zero_block(), SectorState { cover, dirt });
+    }
+
+    /// Lays a change over its sector, which is cached and older than the change. The sector is then dirty metadata with this mark, and
+    /// under this lock. It takes no memory.
     pub fn change(&mut self, change: &Change, mark: u64, cover: LockId)
         requires well_formed { is_change change.now ≡ true }
         requires older { IsOlder (block_at self.old.entries change.now.sector.0) change.now }
@@ -201,9 +252,12 @@ impl Cache {
         ensures spare { self.new.spare ≡ self.old.spare }
     {
         self.sectors.change(change);
-        let mark = Some(mark);
+        let dirt = Some(Dirt {
+            mark,
+            is_bytes: false,
+        });
         let near = self.sectors.last_place();
-        self.set_state(near, change.sector, SectorState { cover, mark });
+        self.set_state(near, change.sector, SectorState { cover, dirt });
     }
 
     /// The sector isn't cached afterwards, whether it was dirty or not. It takes no memory.
@@ -226,7 +280,7 @@ impl Cache {
     /// None of these sectors is cached afterwards, whether it was dirty or not. It takes no memory. Where they ascend it is one pass: each
     /// is looked for from where the one before it lay.
     pub fn forget_all(&mut self, sectors: &[Sector])
-        ensures entries { self.new.entries ≡ forgotten sectors.now self.old.entries }
+        ensures entries { self.new.entries ≡ forgotten self.old.entries (numbers_of sectors.now) }
         ensures spare { self.old.spare ≤ self.new.spare }
     {
         for sector in sectors {
@@ -248,7 +302,7 @@ impl Cache {
 
     // Where the sector lies, if it is cached with this block.
     fn held_at(&self, sector: Sector, block: &Block) -> Option<Place>
-        ensures { is_some result ≡ holds self.now.entries sector.0 block.now }
+        ensures { is_some result ≡ still_has self.now.entries sector.0 block.now }
     {
         match self.sectors.find(sector) {
             Some((place, held)) => {
@@ -264,7 +318,7 @@ impl Cache {
 
     // The sector isn't dirty afterwards, where it is cached. It is looked for at a place first.
     fn mark_clean(&mut self, place: Place, sector: Sector)
-        ensures entries { self.new.entries ≡ adjusted (λ cached. clean cached.block cached.cover) self.old.entries sector.0 }
+        ensures entries { self.new.entries ≡ cleaned self.old.entries sector.0 }
         ensures spare { self.new.spare ≡ self.old.spare }
     {
         self.states.clean(Some(place), sector);
@@ -287,12 +341,19 @@ impl Cache {
 
     /// No sector under this lock is dirty: exactly then `drop_cover` answers `Ok`.
     pub fn is_clean(&self, lock: LockId) -> bool
-        ensures { result ≡ not (is_some (first_dirty lock self.now.entries)) }
+        ensures { result ≡ not (any_cached (is_dirty_under lock) self.now.entries) }
     {
         self.first_dirty(lock).is_none()
     }
 
-    /// Puts a cached sector under another lock. Its block and its mark stay. It takes no memory.
+    /// No sector is dirty.
+    pub fn is_all_clean(&self) -> bool
+        ensures { result ≡ not (any_cached is_dirty self.now.entries) }
+    {
+        self.states.first_mark().is_none()
+    }
+
+    /// Puts a cached sector under another lock. Its block and its dirt stay. It takes no memory.
     pub fn move_cover(&mut self, sector: Sector, cover: LockId)
         requires { IsSome (value_at self.old.entries sector.0) }
         ensures entries { self.new.entries ≡ with_cover self.old.entries sector.0 cover }
@@ -306,7 +367,7 @@ impl Cache {
 
     // The first sector under a lock.
     fn first_under(&self, lock: LockId) -> Option<u64>
-        ensures sector { result ≡ first_under lock self.now.entries }
+        ensures sector { result ≡ first_cached (is_under lock) self.now.entries }
         ensures ordered { Ascend self.now.entries }
     {
         self.states.first_under(lock)
@@ -314,14 +375,14 @@ impl Cache {
 
     // The first dirty sector under a lock.
     fn first_dirty(&self, lock: LockId) -> Option<u64>
-        ensures { result ≡ first_dirty lock self.now.entries }
+        ensures { result ≡ first_cached (is_dirty_under lock) self.now.entries }
     {
         self.states.first_dirty(lock)
     }
 
     // Drops the sectors under a lock, in one pass: they ascend, and each is looked for from where the one before it lay.
     fn drop_all(&mut self, lock: LockId)
-        ensures entries { self.new.entries ≡ dropped lock self.old.entries }
+        ensures entries { self.new.entries ≡ dropped self.old.entries lock }
         ensures spare { self.old.spare ≤ self.new.spare }
     {
         while let Some(sector) = self.first_under(lock) {

@@ -4,8 +4,7 @@ ghost use Rattle.std.proofs.Common.{rules};
 ghost use Rattle.std.specs.Cmp.{eq_by_cmp_equiv, partial_equiv_from_equiv, partial_order_from_total};
 ghost use Rattle.std.specs.Cmp.Rules.{comparing};
 ghost use Rattle.std.specs.Ordering.{as_partial_cmp, eq_by_cmp};
-ghost use Rattle.frang_base.specs.Locks.{same_lock};
-ghost use Rattle.lock_definitions.specs.Order.{lock_cmp};
+ghost use Rattle.lock_definitions.specs.Order.{is_lock, lock_cmp};
 ghost use Rattle.clerk_cache.specs.Covers.{cover_cmp, cover_total, first_of};
 
 use frang_base::LockId;
@@ -91,14 +90,14 @@ pub(crate) fn first_of(
 
 // The sector is under this lock.
 fn is_under(covered: Covered, lock: LockId) -> bool
-    ensures { result ≡ same_lock covered.cover lock }
+    ensures { result ≡ is_lock lock covered.cover }
 {
-    covered.cover == lock
+    compare_locks(&lock, &covered.cover).is_eq()
 }
 
 // The sector, where it is under this lock.
 fn sector_under(covered: Covered, lock: LockId) -> Option<u64>
-    ensures { result ≡ (if same_lock covered.cover lock then Some covered.sector else None) }
+    ensures { result ≡ (if is_lock lock covered.cover then Some covered.sector else None) }
 {
     if is_under(covered, lock) {
         Some(covered.sector)

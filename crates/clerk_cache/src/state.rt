@@ -1,30 +1,31 @@
 // What is kept of a cached sector beside its block.
 ghost use Rattle.std.specs.Prelude.{◌≡◌, Some};
-ghost use Rattle.clerk_cache.specs.Kept.{state_mark, cleaned};
+ghost use Rattle.clerk_cache.specs.Kept.{clean_state, is_state_dirty, state_mark};
 ghost use Rattle.clerk_cache.specs.Keys.{key_at};
-ghost use Rattle.clerk_cache.specs.Covers.{cover_key, is_any, is_dirty};
+ghost use Rattle.clerk_cache.specs.Covers.{cover_key, is_any};
 
 use crate::covered::Covered;
+use cache_definitions::Dirt;
 use flush_order::Mark;
 use frang_base::{LockId, Sector};
 use ordered_map::Edit;
 
-/// The lock that covers a cached sector and, where it is dirty, its mark.
+/// The lock that covers a cached sector and, where it is dirty, its dirt.
 #[derive(Clone, Copy, PartialEq, Eq)]
 pub(crate) struct SectorState {
     pub(crate) cover: LockId,
-    pub(crate) mark: Option<u64>,
+    pub(crate) dirt: Option<Dirt>,
 }
 
-/// The edit that takes the mark from what is kept of a sector.
+/// The edit that takes the dirt from what is kept of a sector.
 #[derive(Clone, Copy)]
 pub(crate) struct Cleaned;
 
 impl Edit<SectorState> for Cleaned {
-    ghost edited = { λ edit state. cleaned state };
+    ghost edited = { λ edit state. clean_state state };
 
     fn edit(&self, state: &mut SectorState) {
-        state.mark = None;
+        state.dirt = None;
     }
 }
 
@@ -40,17 +41,20 @@ pub(crate) struct SectorKeys {
 fn mark_of(sector: Sector, state: SectorState) -> Option<Mark>
     ensures { result ≡ state_mark (sector.0, state) }
 {
-    match state.mark {
-        Some(mark) => Some(Mark { sector, mark }),
+    match state.dirt {
+        Some(dirt) => Some(Mark {
+            sector,
+            mark: dirt.mark,
+        }),
         None => None,
     }
 }
 
 // The cover of a sector, where it is dirty.
 fn dirty_cover_of(sector: Sector, state: SectorState) -> Option<Covered>
-    ensures { result ≡ cover_key is_dirty (sector.0, state) }
+    ensures { result ≡ cover_key is_state_dirty (sector.0, state) }
 {
-    match state.mark {
+    match state.dirt {
         Some(_) => Some(cover_of(sector, state)),
         None => None,
     }
@@ -70,7 +74,7 @@ fn cover_of(sector: Sector, state: SectorState) -> Covered
 pub(crate) fn keys_of(sector: Sector, state: Option<SectorState>) -> SectorKeys
     ensures mark { result.mark ≡ key_at state_mark sector.0 state }
     ensures cover { result.cover ≡ key_at (cover_key is_any) sector.0 state }
-    ensures dirty { result.dirty ≡ key_at (cover_key is_dirty) sector.0 state }
+    ensures dirty { result.dirty ≡ key_at (cover_key is_state_dirty) sector.0 state }
 {
     match state {
         Some(state) => SectorKeys {

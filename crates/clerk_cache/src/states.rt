@@ -3,8 +3,7 @@ ghost use Rattle.std.specs.Prelude.{◌≡◌, ◌+◌, ◌<◌, ◌≤◌, [], 
 ghost use Rattle.sector_bytes.specs.SectorMaps.{value_at, with_value, without, adjusted, room_for};
 ghost use Rattle.flush_order.specs.Marks.{least, first_mark};
 ghost use Rattle.ordered_map.specs.Chunks.{joined};
-ghost use Rattle.clerk_cache.specs.Kept.{first_dirty_state, state_marks, cleaned};
-ghost use Rattle.clerk_cache.specs.Covers.{first_under_state};
+ghost use Rattle.clerk_cache.specs.Kept.{clean_state, first_state, is_state_dirty_under, is_state_under, state_marks};
 
 use crate::covered::{Covered, first_of};
 use crate::keys::{exchange, reserve, take_out};
@@ -88,14 +87,14 @@ impl States {
 
     /// The first sector under a lock. It is looked for first from where the last one lay that was removed.
     pub(crate) fn first_under(&self, lock: LockId) -> Option<u64>
-        ensures { result ≡ first_under_state lock self.now.entries }
+        ensures { result ≡ first_state (is_state_under lock) self.now.entries }
     {
         first_of(&self.covers, self.covers.last_place(), lock)
     }
 
     /// The first dirty sector under a lock.
     pub(crate) fn first_dirty(&self, lock: LockId) -> Option<u64>
-        ensures { result ≡ first_dirty_state lock self.now.entries }
+        ensures { result ≡ first_state (is_state_dirty_under lock) self.now.entries }
     {
         first_of(&self.dirty, None, lock)
     }
@@ -130,7 +129,7 @@ impl States {
 
     /// The sector isn't dirty afterwards, where something is kept of it. It takes no memory.
     pub(crate) fn clean(&mut self, near: Option<Place>, sector: Sector)
-        ensures entries { self.new.entries ≡ adjusted cleaned self.old.entries sector.0 }
+        ensures entries { self.new.entries ≡ adjusted clean_state self.old.entries sector.0 }
         ensures spare { self.new.spare ≡ self.old.spare }
     {
         match self.states.update(near, &sector.0, &Cleaned) {

@@ -29,7 +29,7 @@ use Rattle.disk_definitions.specs.declared.region.Region.TheVariants as region
 use Rattle.core_definitions.specs.Settings.{LogRules, lease_to}
 use Rattle.core_definitions.specs.Sets.{LockSet, first_set, joined_all}
 use Rattle.core_definitions.specs.Rings.{appended_some}
-use Rattle.core_definitions.specs.Caches.{Cache, Kept, clean, dirty, each_kept, forgotten}
+use Rattle.cache_definitions.specs.Caches.{Cache, CachedSector, clean, dirty, each_cached, forgotten}
 use Rattle.core_definitions.specs.Logs.{end_of}
 use Rattle.core_definitions.specs.Plans.{BytesSet, Outcome}
 use Rattle.core_definitions.specs.Lines.{Seen, Stage, Asking, Fetching, Moving, Stopping, Growing, Clearing, Finishing, Under, operation_of, under_at_first}
@@ -135,12 +135,12 @@ change_in None sector = None
 change_in (Some redo) sector = change_at redo.changes sector
 
 -- a cached sector comes under its new cover; a changed one is dirty, with the last log number as its mark
-abbrev pub changed_by : ℕ → LockId → Option Change → Kept → Kept
-changed_by mark cover None kept = record kept { cover = cover }
-changed_by mark cover (Some change) kept = dirty (changed kept.block change) cover mark false
+abbrev pub changed_by : ℕ → LockId → Option Change → CachedSector → CachedSector
+changed_by mark cover None cached = record cached { cover = cover }
+changed_by mark cover (Some change) cached = dirty (changed cached.block change) cover mark false
 
-abbrev pub kept_after : ℕ → Outcome → ℕ → Kept → Kept
-kept_after mark outcome sector kept = changed_by mark (unwrap_or (outcome.moves sector) kept.cover) (change_in outcome.redo sector) kept
+abbrev pub sector_after : ℕ → Outcome → ℕ → CachedSector → CachedSector
+sector_after mark outcome sector cached = changed_by mark (unwrap_or (outcome.moves sector) cached.cover) (change_in outcome.redo sector) cached
 
 -- the sectors of file bytes that are set
 abbrev pub with_bytes : ℕ → Cache → BytesSet → Cache
@@ -148,7 +148,7 @@ with_bytes mark cache set = with_value cache set.sector (dirty set.block set.cov
 
 -- freed sectors of file bytes are forgotten
 abbrev pub cache_after : ℕ → Outcome → Cache → Cache
-cache_after mark outcome cache = forgotten (fold (with_bytes mark) (each_kept (kept_after mark outcome) cache) outcome.bytes) outcome.freed
+cache_after mark outcome cache = forgotten (fold (with_bytes mark) (each_cached (sector_after mark outcome) cache) outcome.bytes) outcome.freed
 
 abbrev pub ring_after : Server → Outcome → Ring
 ring_after server outcome = appended_some server.ring outcome.redo

@@ -18,7 +18,7 @@ use Rattle.disk_definitions.specs.declared.region.Region.TheVariants as region
 use Rattle.core_definitions.specs.Settings.{LogRules}
 use Rattle.core_definitions.specs.Logs.{is_none, unread}
 use Rattle.core_definitions.specs.Rings.{has_room}
-use Rattle.core_definitions.specs.Caches.{is_dirty_at}
+use Rattle.cache_definitions.specs.Caches.{is_dirty_at}
 use Rattle.core_definitions.specs.Plans.{Outcome}
 use Rattle.core_definitions.specs.Lines.{Stage, Asking, Fetching, Moving, Growing, Clearing, Finishing, Under}
 use Rattle.core_definitions.specs.Scripts.{hosts_answered}

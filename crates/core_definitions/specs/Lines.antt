@@ -22,7 +22,7 @@ use Rattle.disk_definitions.specs.Ask.Met.{Needs, Has}
 use Rattle.disk_definitions.specs.Plans.{Lock, Plan}
 use Rattle.disk_definitions.specs.Plans.Plan.{Lacks, Clears, Finishes}
 use Rattle.disk_definitions.specs.Written.{Cached}
-use Rattle.core_definitions.specs.Caches.{Cache}
+use Rattle.cache_definitions.specs.Caches.{Cache}
 use Rattle.core_definitions.specs.Logs.{SlotsRead}
 use Rattle.core_definitions.specs.Plans.{Sight, Outcome, clear_needs, cover_of, examined_in, finish_needs, nodes_looked_at, outcome_of, planned, program_of, sight_of}
 use Rattle.core_definitions.specs.Sets.{LockSet, first_set, has_lock, lacks, next_segment, segments_in, to_ask}

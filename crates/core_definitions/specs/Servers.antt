@@ -13,7 +13,7 @@ use Rattle.ring_definitions.specs.Rings.{Ring, last, ring_at}
 use Rattle.core_definitions.specs.Settings.{LogRules, Setting}
 use Rattle.core_definitions.specs.Logs.{end_of, is_read}
 use Rattle.core_definitions.specs.Rings.{is_all_reached}
-use Rattle.core_definitions.specs.Caches.{Cache, any_kept, dirty_sectors, is_dirty, is_dirty_bytes}
+use Rattle.cache_definitions.specs.Caches.{Cache, any_cached, dirty_sectors, is_dirty, is_dirty_bytes}
 use Rattle.core_definitions.specs.Lines.{Stage, Under, operation_of, stage_at}
 use Rattle.core_definitions.specs.Flights.{Flights, has_flights}
 use Rattle.core_definitions.specs.Recoveries.{Recovery}
@@ -131,7 +131,7 @@ stage_of setting locks number server =
 -- nothing is dirty, no write of the present mount is in flight, the whole log is acknowledged, and it has no recovery
 abbrev pub is_clean : Flights → ℕ → Server → Bool
 is_clean flights number server =
-    not (any_kept is_dirty server.cache) && not (has_flights flights number) && is_all_reached server.ring && not (is_some server.recovery)
+    not (any_cached is_dirty server.cache) && not (has_flights flights number) && is_all_reached server.ring && not (is_some server.recovery)
 
 -- off; or up, clean and without a line under way
 abbrev pub is_quiet : Flights → ℕ → Server → Bool
@@ -167,7 +167,7 @@ mount_answer logs under = if under.get_failed then Some reply.Io else due_if (is
 
 -- each log record and sector of file bytes of this mount is acknowledged
 abbrev pub is_synced : Server → Bool
-is_synced server = is_all_reached server.ring && not (any_kept is_dirty_bytes server.cache)
+is_synced server = is_all_reached server.ring && not (any_cached is_dirty_bytes server.cache)
 
 -- a line's own answer, but for one over paths
 abbrev pub own_answer : LogRules → Flights → ℕ → Server → Under → Op → Option Reply

@@ -12,7 +12,7 @@ use Rattle.ring_definitions.specs.Rings.{Ring, acked as ring_acked, issued as ri
 use Rattle.sector_bytes.specs.Blocks.{Block}
 use Rattle.sector_bytes.specs.SectorMaps.{value_at, without}
 use Rattle.core_definitions.specs.Settings.{Setting, lease_to}
-use Rattle.core_definitions.specs.Caches.{cleaned, dropped}
+use Rattle.cache_definitions.specs.Caches.{cleaned, dropped}
 use Rattle.core_definitions.specs.Lines.{Under, operation_of}
 use Rattle.core_definitions.specs.Flights.{Flight, Flights, InPlace, OfLog, OfRecovery, Purpose, left_behind, lost}
 use Rattle.core_definitions.specs.Recoveries.{Recovery}

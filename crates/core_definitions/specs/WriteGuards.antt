@@ -11,7 +11,7 @@ use Rattle.sector_bytes.specs.SectorMaps.{value_at}
 use Rattle.core_definitions.specs.Settings.{lease_to}
 use Rattle.core_definitions.specs.Sets.{LockSet, has_lock, held_set}
 use Rattle.core_definitions.specs.Rings.{is_all_reached}
-use Rattle.core_definitions.specs.Caches.{any_kept, is_dirty_under}
+use Rattle.cache_definitions.specs.Caches.{any_cached, is_dirty_under}
 use Rattle.core_definitions.specs.Lines.{Under}
 use Rattle.core_definitions.specs.Flights.{Flight, has_flights_under, is_flying}
 use Rattle.core_definitions.specs.Scripts.{host_party}
@@ -40,13 +40,13 @@ pub record CanGive (c : Core) (a : ℕ) (lock : LockId) : Type 0 where
   pub up : IsTrue (is_up (c.servers a).phase)
   pub asked : IsTrue (is_some (asked_for c.locks a lock))
   pub unused : IsTrue (not (is_in_use c a lock))
-  pub clean : IsTrue (not (any_kept (is_dirty_under lock) (c.servers a).cache))
+  pub clean : IsTrue (not (any_cached (is_dirty_under lock) (c.servers a).cache))
   pub landed : IsTrue (not (has_flights_under c.flights a lock))
   pub logged : IsTrue (not (is_sole c a lock) || is_all_reached (c.servers a).ring)
 
 abbrev pub may_give : Core → ℕ → LockId → Bool
 may_give c a lock =
-    is_server a && is_up (c.servers a).phase && is_some (asked_for c.locks a lock) && not (is_in_use c a lock) && not (any_kept (is_dirty_under lock) (c.servers a).cache)
+    is_server a && is_up (c.servers a).phase && is_some (asked_for c.locks a lock) && not (is_in_use c a lock) && not (any_cached (is_dirty_under lock) (c.servers a).cache)
     && not (has_flights_under c.flights a lock) && (not (is_sole c a lock) || is_all_reached (c.servers a).ring)
 
 -- ---- Issue

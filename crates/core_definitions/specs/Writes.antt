@@ -1,7 +1,7 @@
 -- The writes that a server or the host wants: of its log, in place, and of its recovery.
 use Rattle.std.specs.Prelude.{ℕ, ◌==◌, Bool, true, false, not, ◌&&◌, ◌||◌, if◌then◌else◌, nat_le, Option, Some, None, is_some, List, [], ◌∷◌, ◌++◌, map, fold}
 use Rattle.std.specs.List.{filter_map, list_any}
-use Rattle.std.specs.Option.{option_and_then, option_map}
+use Rattle.std.specs.Option.{option_map}
 use Rattle.frang_base.specs.Functions.{member}
 use Rattle.frang_base.specs.declared.lock.LockId.{LockId}
 use Rattle.frang_base.specs.declared.lock.Mode.TheVariants.{Shared, Sole}
@@ -10,11 +10,12 @@ use Rattle.lock_definitions.specs.Locks.{Locks, claims_of, held}
 use Rattle.lock_definitions.specs.Calls.{asked_for, serves}
 use Rattle.ring_definitions.specs.Rings.{Ring, last, sent}
 use Rattle.sector_bytes.specs.Blocks.{Block}
-use Rattle.sector_bytes.specs.SectorMaps.{value_at, with_value}
+use Rattle.sector_bytes.specs.SectorMaps.{with_value}
 use Rattle.core_definitions.specs.Settings.{LogRules, Setting}
 use Rattle.core_definitions.specs.Logs.{is_none, log_sector}
 use Rattle.core_definitions.specs.Rings.{has_room, is_in_window, is_oldest_named, next_write}
-use Rattle.core_definitions.specs.Caches.{Cache, Dirt, Kept, is_dirty_bytes, still_has}
+use Rattle.cache_definitions.specs.declared.dirt.Dirt.{Dirt}
+use Rattle.cache_definitions.specs.Caches.{Cache, CachedSector, is_dirty_bytes, mark_at, still_has}
 use Rattle.core_definitions.specs.Lines.{Stage, Finishing}
 use Rattle.core_definitions.specs.Flights.{Purpose, OfLog, InPlace, OfRecovery}
 use Rattle.core_definitions.specs.Recoveries.{Recovery, recovery_writes}
@@ -47,10 +48,10 @@ has_pressed locks number = list_any (λ claim. is_pressed locks number claim.0) 
 
 -- a dirty sector is wanted where it stays wanted; its zeros are pending; an unmount is under way; a sync is, and it is one of file bytes; its lock is held sole and asked; or the
 -- ring has no room and its oldest records name the sector
-abbrev pub is_place_wanted : LogRules → Locks → ℕ → Server → Option Stage → ℕ → Kept → Bool
-is_place_wanted logs locks number server stage sector kept =
-    member sector server.staying || member sector server.pending || asks is_unmount server || (asks is_sync server && is_dirty_bytes kept)
-    || is_pressed locks number kept.cover || (lacks_room logs server.ring stage && is_oldest_named logs server.ring sector)
+abbrev pub is_place_wanted : LogRules → Locks → ℕ → Server → Option Stage → ℕ → CachedSector → Bool
+is_place_wanted logs locks number server stage sector cached =
+    member sector server.staying || member sector server.pending || asks is_unmount server || (asks is_sync server && is_dirty_bytes cached)
+    || is_pressed locks number cached.cover || (lacks_room logs server.ring stage && is_oldest_named logs server.ring sector)
 
 -- with each of these causes the log is wanted up to its last number
 abbrev pub is_log_wanted : LogRules → Locks → ℕ → Server → Option Stage → Bool
@@ -64,10 +65,10 @@ log_wanted_to logs locks number server stage = if is_log_wanted logs locks numbe
 -- ---- the writes
 
 -- a dirty sector that is wanted
-abbrev pub place_write : ℕ → Bool → Kept → Option Dirt → Option Write
-place_write number wanted kept None = None
-place_write number wanted kept (Some dirt) =
-    if wanted then Some (record { behalf = number; block = kept.block; purpose = InPlace kept.cover; mark = Some dirt.mark }) else None
+abbrev pub place_write : ℕ → Bool → CachedSector → Option Dirt → Option Write
+place_write number wanted cached None = None
+place_write number wanted cached (Some dirt) =
+    if wanted then Some (record { behalf = number; block = cached.block; purpose = InPlace cached.cover; mark = Some dirt.mark }) else None
 
 abbrev pub place_writes : LogRules → Locks → ℕ → Server → Option Stage → Writes
 place_writes logs locks number server stage =
@@ -98,10 +99,6 @@ wanted_writes setting locks number server stage =
 abbrev pub is_mark_reached : Ring → Option ℕ → Bool
 is_mark_reached ring None = true
 is_mark_reached ring (Some mark) = nat_le mark ring.reached
-
--- the mark of a cached sector, where it is dirty
-abbrev pub mark_at : Cache → ℕ → Option ℕ
-mark_at cache sector = option_and_then (λ kept. option_map (λ dirt. dirt.mark) kept.dirt) (value_at cache sector)
 
 -- a sector in place is clean once a write of it has arrived: the cache still has this block of it, and its mark is reached
 abbrev pub comes_clean : Server → ℕ → Block → Bool

@@ -14,7 +14,8 @@ use Rattle.disk_definitions.specs.Least.{least, least_from}
 use Rattle.sector_bytes.specs.Blocks.{zero_block}
 use Rattle.sector_bytes.specs.Bytes.{zeros}
 use Rattle.sector_bytes.specs.Changes.{changed}
-use Rattle.core_definitions.specs.Caches.{Cache, Dirt, clean}
+use Rattle.cache_definitions.specs.declared.dirt.Dirt.{Dirt}
+use Rattle.cache_definitions.specs.Caches.{Cache, clean}
 use Rattle.core_definitions.specs.Flights.{InPlace}
 use Rattle.core_definitions.specs.Lines.{under_at_first}
 use Rattle.core_definitions.specs.Servers.{Server}
@@ -71,7 +72,7 @@ the_zeros_are_written_first = refl
 
 -- of each cached sector its cover, and its dirt where it is dirty
 abbrev pub covers_of : Cache → List (ℕ × LockId × Option Dirt)
-covers_of cache = map (λ kept. (kept.0, kept.1.cover, kept.1.dirt)) cache
+covers_of cache = map (λ cached. (cached.0, cached.1.cover, cached.1.dirt)) cache
 
 -- their writes are acknowledged, so many of them
 abbrev pub acknowledged_zero : Server → ℕ → Server

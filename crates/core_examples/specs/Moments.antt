@@ -16,7 +16,7 @@ use Rattle.ring_definitions.specs.Rings.{Ring, ring_at}
 use Rattle.sector_bytes.specs.Bytes.{zeros}
 use Rattle.sector_bytes.specs.Changes.{changed}
 use Rattle.disk_definitions.specs.LogSectors.{empty_sector}
-use Rattle.core_definitions.specs.Caches.{Kept, clean, dirty}
+use Rattle.cache_definitions.specs.Caches.{CachedSector, clean, dirty}
 use Rattle.core_definitions.specs.Flights.{Flight, InPlace}
 use Rattle.core_definitions.specs.Lines.{under_at_first}
 use Rattle.core_definitions.specs.Plans.{Outcome}
@@ -35,13 +35,13 @@ abbrev pub file_sector : ℕ
 file_sector = 10737418241
 
 -- the file's inode in a cache: clean, and dirty with a mark that is reached
-abbrev pub clean_file : Kept
+abbrev pub clean_file : CachedSector
 clean_file = clean file_block (Node 1)
 
-abbrev pub dirty_file : Kept
+abbrev pub dirty_file : CachedSector
 dirty_file = dirty file_block (Node 1) 255 false
 
-abbrev pub holding_file : Kept → Server → Server
+abbrev pub holding_file : CachedSector → Server → Server
 holding_file file server = record server { cache = (file_sector, file) ∷ [] }
 
 -- its write in flight, of a server's present mount or of an earlier one, up to tick 15
@@ -89,7 +89,7 @@ abbrev pub cut : Op
 cut = op.Truncate (codes "f" ∷ []) 0
 
 -- a line under way that has its locks, over sectors that are all cached
-abbrev pub cutting : Ring → Kept → Server
+abbrev pub cutting : Ring → CachedSector → Server
 cutting ring file = record up {
   ring = ring;
   cache =
@@ -101,7 +101,7 @@ cutting ring file = record up {
 abbrev pub cutting_locks : Locks
 cutting_locks = wanted (wanted no_locks 0 (Node 0) Shared) 0 (Node 1) Sole
 
-abbrev pub cutting_with : Ring → Kept → State
+abbrev pub cutting_with : Ring → CachedSector → State
 cutting_with ring file = locked_so (having (filed_opening (line 1 0 cut ∷ [])) 0 (cutting ring file)) cutting_locks
 
 -- where the log has room the line is committed

@@ -11,7 +11,7 @@ use Rattle.lock_definitions.specs.Servers.{any_server}
 use Rattle.ring_definitions.specs.Rings.{ring_at}
 use Rattle.sector_bytes.specs.Blocks.{Block, zero_block}
 use Rattle.sector_bytes.specs.Bytes.{zeros}
-use Rattle.core_definitions.specs.Caches.{dirty}
+use Rattle.cache_definitions.specs.Caches.{dirty}
 use Rattle.core_definitions.specs.Lines.{under_at_first}
 use Rattle.core_definitions.specs.Flights.{Flights, OfLog}
 use Rattle.core_definitions.specs.Recoveries.{recovery_of}

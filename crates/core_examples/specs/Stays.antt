@@ -16,7 +16,8 @@ use Rattle.sector_bytes.specs.SectorMaps.{value_at}
 use Rattle.tree_definitions.specs.Apply.{is_path_op}
 use Rattle.core_definitions.specs.Settings.{Setting}
 use Rattle.core_definitions.specs.Sets.{LockSet, has_lock, next_segment, segments_in, to_ask}
-use Rattle.core_definitions.specs.Caches.{Cache, Kept, cleaned, usable}
+use Rattle.cache_definitions.specs.Caches.{Cache, CachedSector, cleaned, without_dirt}
+use Rattle.core_definitions.specs.Caches.{usable}
 use Rattle.core_definitions.specs.Plans.{sight_over}
 use Rattle.core_definitions.specs.Lines.{Stage, Under, bitmap_sector, missing_bitmaps, operation_of, stage_asked, stage_held, stage_in_sight}
 use Rattle.core_definitions.specs.Flights.{Flight, InPlace, OfLog, OfRecovery, Purpose}
@@ -30,25 +31,25 @@ use Rattle.core_definitions.specs.WriteEffects.{acknowledged, arrived_as, arrive
 
 -- ---- a cache without its dirt
 
-abbrev undirty : ℕ × Kept → ℕ × Kept
-undirty entry = (entry.0, record entry.1 { dirt = None })
+abbrev undirty : ℕ × CachedSector → ℕ × CachedSector
+undirty entry = (entry.0, without_dirt entry.1)
 
 abbrev pub blocks_in : Cache → Cache
 blocks_in cache = map undirty cache
 
 blocks_cleaned : (cache : Cache) (sector : ℕ) → blocks_in (cleaned cache sector) ≡ blocks_in cache
 blocks_cleaned [] sector = refl
-blocks_cleaned (x ∷ xs) sector = ap (λ e. e ∷ blocks_in (cleaned xs sector)) (go (x.0 == sector)) ∙ ap (λ es. undirty x ∷ es) (blocks_cleaned xs sector)
+blocks_cleaned (x ∷ xs) sector = go (is_at (nat_cmp sector) x.0) (blocks_cleaned xs sector)
   where
-    go : (b : Bool) → undirty (if b then undirty x else x) ≡ undirty x
-    go true = refl
-    go false = refl
+    go : (b : Bool) → blocks_in (cleaned xs sector) ≡ blocks_in xs → blocks_in (if b then undirty x ∷ xs else x ∷ cleaned xs sector) ≡ blocks_in (x ∷ xs)
+    go true rest = refl
+    go false rest = ap (λ es. undirty x ∷ es) rest
 
 usable_same : (set : LockSet) (cache : Cache) → usable set (blocks_in cache) ≡ usable set cache
 usable_same set [] = refl
 usable_same set (x ∷ xs) = ap (λ es. cons_option (usable_at set x) es) (usable_same set xs)
   where
-    usable_at : LockSet → ℕ × Kept → Option (ℕ × Block)
+    usable_at : LockSet → ℕ × CachedSector → Option (ℕ × Block)
     usable_at set entry = if has_lock set entry.1.cover then Some (entry.0, entry.1.block) else None
 
 there : (cache : Cache) (sector : ℕ) → is_some (value_at (blocks_in cache) sector) ≡ is_some (value_at cache sector)

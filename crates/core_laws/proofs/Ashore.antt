@@ -22,7 +22,7 @@ use Rattle.sector_bytes.specs.SectorMaps.{value_at, without}
 use Rattle.sector_bytes.specs.Sectors.{Sectors}
 use Rattle.tree_definitions.specs.Touched.{is_ok, is_unmount}
 use Rattle.tree_definitions.specs.Transcript.{is_halt}
-use Rattle.core_definitions.specs.Caches.{any_kept, is_dirty}
+use Rattle.cache_definitions.specs.Caches.{any_cached, is_dirty}
 use Rattle.core_definitions.specs.Flights.{Flight, Flights, InPlace, OfLog, OfRecovery, Purpose, each_of_server, has_flights, is_of_mount, left_behind, lost}
 use Rattle.core_definitions.specs.Lines.{Stage, Asking, Fetching, Moving, Stopping, Growing, Clearing, Finishing, Under, operation_of}
 use Rattle.core_definitions.specs.Logs.{is_read}
@@ -211,7 +211,7 @@ lands_clean false true r v h = absurd (false≢true h)
 lands_clean false false r v h = refl
 
 pub clean_lands : (flights : Flights) (a : ℕ) (server : Server) → IsTrue (is_clean flights a server) → has_flights flights a ≡ false
-clean_lands flights a server h = lands_clean (any_kept is_dirty server.cache) (has_flights flights a) (is_all_reached server.ring) (is_some server.recovery) h
+clean_lands flights a server h = lands_clean (any_cached is_dirty server.cache) (has_flights flights a) (is_all_reached server.ring) (is_some server.recovery) h
 
 module _ (c : Core) (a : ℕ) (under : Under) (server : Server) where
   abbrev Rests : Server → Type 0

@@ -18,7 +18,7 @@ use Rattle.disk_definitions.specs.Ask.Met.{Needs, Has}
 use Rattle.disk_definitions.specs.Plans.{Lock, Plan}
 use Rattle.disk_definitions.specs.Plans.Plan.{Lacks, Clears, Finishes}
 use Rattle.tree_definitions.specs.Apply.{is_path_op}
-use Rattle.core_definitions.specs.Caches.{Cache}
+use Rattle.cache_definitions.specs.Caches.{Cache}
 use Rattle.core_definitions.specs.Lines.{Comparison, HasMoved, HasStopped, HasGoneThrough, Seen, Stage, Asking, Fetching, Moving, Stopping, Growing, Clearing, Finishing, Under, compared, missing_bitmaps, needed_mode, needing, once_through, operation_of, or_grown, seen_more, sole_segment, stage_asked, stage_by, stage_held, stage_over}
 use Rattle.core_definitions.specs.Plans.{Sight, clear_needs, examined_in, finish_needs, nodes_looked_at, outcome_of, planned, program_of, sight_of}
 use Rattle.core_definitions.specs.Servers.{Server, asked_by, asks, is_open, is_up, stage_of, stage_under, stage_with}

@@ -9,7 +9,7 @@ use Rattle.tree_definitions.specs.Numbers.{below}
 use Rattle.core_definitions.specs.Settings.{lease_to}
 use Rattle.core_definitions.specs.Logs.{is_none}
 use Rattle.core_definitions.specs.Rings.{is_all_reached}
-use Rattle.core_definitions.specs.Caches.{any_kept, is_dirty_under}
+use Rattle.cache_definitions.specs.Caches.{any_cached, is_dirty_under}
 use Rattle.core_definitions.specs.Flights.{has_flights_under, is_flying}
 use Rattle.core_definitions.specs.Scripts.{earlier_answered, have_passed, host_party}
 use Rattle.core_definitions.specs.Servers.{is_answering, is_doomed, is_up}
@@ -133,11 +133,11 @@ answer_can c a may =
     record { server = all.p0; due = all.p1 }
 
 pub give_may : (c : Core) (a : ℕ) (lock : LockId) → CanGive c a lock → IsTrue (may_give c a lock)
-give_may c a lock can = all_7 (is_server a) (is_up (c.servers a).phase) (is_some (asked_for c.locks a lock)) (not (is_in_use c a lock)) (not (any_kept (is_dirty_under lock) (c.servers a).cache)) (not (has_flights_under c.flights a lock)) (not (is_sole c a lock) || is_all_reached (c.servers a).ring) can.server can.up can.asked can.unused can.clean can.landed can.logged
+give_may c a lock can = all_7 (is_server a) (is_up (c.servers a).phase) (is_some (asked_for c.locks a lock)) (not (is_in_use c a lock)) (not (any_cached (is_dirty_under lock) (c.servers a).cache)) (not (has_flights_under c.flights a lock)) (not (is_sole c a lock) || is_all_reached (c.servers a).ring) can.server can.up can.asked can.unused can.clean can.landed can.logged
 
 pub give_can : (c : Core) (a : ℕ) (lock : LockId) → IsTrue (may_give c a lock) → CanGive c a lock
 give_can c a lock may =
-    let all = of_7 (is_server a) (is_up (c.servers a).phase) (is_some (asked_for c.locks a lock)) (not (is_in_use c a lock)) (not (any_kept (is_dirty_under lock) (c.servers a).cache)) (not (has_flights_under c.flights a lock)) (not (is_sole c a lock) || is_all_reached (c.servers a).ring) may in
+    let all = of_7 (is_server a) (is_up (c.servers a).phase) (is_some (asked_for c.locks a lock)) (not (is_in_use c a lock)) (not (any_cached (is_dirty_under lock) (c.servers a).cache)) (not (has_flights_under c.flights a lock)) (not (is_sole c a lock) || is_all_reached (c.servers a).ring) may in
     record { server = all.p0; up = all.p1; asked = all.p2; unused = all.p3; clean = all.p4; landed = all.p5; logged = all.p6 }
 
 pub issuable_may : (c : Core) (a sector : ℕ) (all : Writes) → IsIssuable c a sector all → IsTrue (is_issuable c a sector all)

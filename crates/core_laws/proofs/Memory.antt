@@ -16,7 +16,7 @@ use Rattle.sector_bytes.specs.Blocks.{Block}
 use Rattle.tree_definitions.specs.Apply.{is_path_op}
 use Rattle.tree_definitions.specs.Touched.{is_ok, is_unmount}
 use Rattle.core_definitions.specs.Settings.{LogRules}
-use Rattle.core_definitions.specs.Caches.{cleaned}
+use Rattle.cache_definitions.specs.Caches.{cleaned}
 use Rattle.core_definitions.specs.Logs.{is_read}
 use Rattle.core_definitions.specs.Lines.{Stage, Asking, Fetching, Moving, Stopping, Growing, Clearing, Finishing, Under, operation_of}
 use Rattle.core_definitions.specs.Flights.{Flight, InPlace, OfLog, OfRecovery, Purpose}

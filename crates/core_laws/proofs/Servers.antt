@@ -18,13 +18,13 @@ use Rattle.disk_definitions.specs.Plans.{Lock}
 use Rattle.ring_definitions.specs.Rings.{last}
 use Rattle.sector_bytes.specs.Blocks.{Block}
 use Rattle.sector_bytes.specs.SectorMaps.{Ascend, without}
-use Rattle.sector_bytes.proofs.MapLaws.{ascend_with, ascend_without}
+use Rattle.sector_bytes.proofs.MapLaws.{ascend_adjusted, ascend_with, ascend_without}
 use Rattle.sorted_entries.proofs.Sorted.{sorted-insert_entry}
 use Rattle.tree_definitions.specs.Apply.{is_path_op}
 use Rattle.tree_definitions.specs.Touched.{is_ok, is_unmount}
 use Rattle.core_definitions.specs.Writes.{comes_clean}
 use Rattle.core_definitions.specs.Settings.{LogRules}
-use Rattle.core_definitions.specs.Caches.{Cache, Kept, cleaned, dirty_sectors, dropped, each_kept}
+use Rattle.cache_definitions.specs.Caches.{Cache, cleaned, dirty_sectors, dropped, each_cached, without_dirt}
 use Rattle.core_definitions.specs.Flights.{InPlace, OfLog, OfRecovery, Purpose}
 use Rattle.core_definitions.specs.Lines.{Stage, Asking, Fetching, Moving, Stopping, Growing, Clearing, Finishing, Under, operation_of, set_at_first}
 use Rattle.core_definitions.specs.Plans.{Outcome}
@@ -33,7 +33,7 @@ use Rattle.core_definitions.specs.Servers.{Fate, Server, is_off, is_up, wanting_
 use Rattle.core_definitions.specs.Sets.{LockSet, first_set, joined, joined_all, mode_in, with_mode}
 use Rattle.core_definitions.specs.Trees.{block_sectors}
 use Rattle.core_definitions.specs.Cores.{Core}
-use Rattle.core_definitions.specs.LineEffects.{again_by, answered_by, answered_open, begun_line, begun_with, cache_after, cached_under, cleared_at, committed_by, cover_needed, fetched_by, kept_after, refused_under, ring_after, set_grown, slot_read, with_bytes, with_under, zeroed}
+use Rattle.core_definitions.specs.LineEffects.{again_by, answered_by, answered_open, begun_line, begun_with, cache_after, cached_under, cleared_at, committed_by, cover_needed, fetched_by, refused_under, ring_after, sector_after, set_grown, slot_read, with_bytes, with_under, zeroed}
 use Rattle.core_definitions.specs.WriteEffects.{acknowledged, acknowledged_for, clean_now, died_with, under_at_death}
 use Rattle.core_laws.specs.Orders.{AreLinesInOrder, AreRecoveriesInOrder, Ascending, IsLineInOrder, IsRecoveryInOrder, IsServerInOrder}
 use Rattle.core_laws.proofs.Sorting.{ascend_changed, ascend_fold, ascending_sorted, keys_filter, sorted_none, sorted_one}
@@ -127,9 +127,9 @@ cleared_order block server s = record {
 
 cache_order : (mark : ℕ) (outcome : Outcome) (cache : Cache) → Ascend cache → Ascend (cache_after mark outcome cache)
 cache_order mark outcome cache c =
-    ascend_fold without (λ es sector e. ascend_without sector es e) outcome.freed (fold (with_bytes mark) (each_kept (kept_after mark outcome) cache) outcome.bytes)
-    (ascend_fold (with_bytes mark) (λ es set e. ascend_with set.sector _ es e) outcome.bytes (each_kept (kept_after mark outcome) cache)
-    (ascend_changed (λ entry. (entry.0, kept_after mark outcome entry.0 entry.1)) (λ entry. refl) cache c))
+    ascend_fold without (λ es sector e. ascend_without sector es e) outcome.freed (fold (with_bytes mark) (each_cached (sector_after mark outcome) cache) outcome.bytes)
+    (ascend_fold (with_bytes mark) (λ es set e. ascend_with set.sector _ es e) outcome.bytes (each_cached (sector_after mark outcome) cache)
+    (ascend_changed (λ entry. (entry.0, sector_after mark outcome entry.0 entry.1)) (λ entry. refl) cache c))
 
 pub committed_order : (outcome : Outcome) (server : Server) → IsServerInOrder server → IsServerInOrder (committed_by outcome server)
 committed_order outcome server s = record {
@@ -186,11 +186,7 @@ given_order server lock s = record {
 }
 
 cleaned_order : (cache : Cache) (sector : ℕ) → Ascend cache → Ascend (cleaned cache sector)
-cleaned_order cache sector c = ascend_changed (λ entry. if entry.0 == sector then (entry.0, record entry.1 { dirt = None }) else entry) (λ entry. go entry (entry.0 == sector)) cache c
-  where
-    go : (entry : ℕ × Kept) (b : Bool) → (if b then (entry.0, record entry.1 { dirt = None }) else entry).0 ≡ entry.0
-    go entry true = refl
-    go entry false = refl
+cleaned_order cache sector c = ascend_adjusted without_dirt cache sector c
 
 clean_order : (sector : ℕ) (server : Server) (test : Bool) → IsServerInOrder server → IsServerInOrder (if test then clean_now sector server else server)
 clean_order sector server true s = record {

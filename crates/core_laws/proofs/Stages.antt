@@ -24,7 +24,7 @@ use Rattle.disk_definitions.proofs.Listed.{Among}
 use Rattle.sector_bytes.specs.Blocks.{version_of}
 use Rattle.sector_bytes.specs.SectorMaps.{value_at}
 use Rattle.tree_definitions.specs.Apply.{is_path_op}
-use Rattle.core_definitions.specs.Caches.{Cache}
+use Rattle.cache_definitions.specs.Caches.{Cache}
 use Rattle.core_definitions.specs.Lines.{Comparison, HasMoved, HasStopped, HasGoneThrough, Seen, Stage, Asking, Fetching, Moving, Stopping, Growing, Clearing, Finishing, Under, bitmap_sector, compared, is_seen, missing_bitmaps, needed_mode, needing, once_through, operation_of, or_grown, seen_more, sole_segment, stage_asked, stage_by, stage_held, stage_over, with_seen}
 use Rattle.core_definitions.specs.Plans.{Sight, clear_needs, examined_in, finish_needs, nodes_looked_at, outcome_of, planned, program_of, sight_of}
 use Rattle.core_definitions.specs.Servers.{Server, asks, is_up, stage_of, stage_under, stage_with}

@@ -12,7 +12,8 @@ use Rattle.sector_bytes.specs.Blocks.{Block}
 use Rattle.sector_bytes.specs.SectorMaps.{value_at, with_value}
 use Rattle.sector_bytes.proofs.MapLaws.{found}
 use Rattle.sorted_entries.proofs.Sorted.{lookup-insert_entry}
-use Rattle.core_definitions.specs.Caches.{Dirt, Kept}
+use Rattle.cache_definitions.specs.declared.dirt.Dirt.{Dirt}
+use Rattle.cache_definitions.specs.Caches.{CachedSector}
 use Rattle.core_definitions.specs.Flights.{InPlace, OfLog, OfRecovery, Purpose}
 use Rattle.core_definitions.specs.Lines.{Stage}
 use Rattle.core_definitions.specs.Logs.{log_sector}
@@ -77,11 +78,11 @@ place_not logs locks number server at one i =
     none_some : (w : ℕ × Write) → None ≡ Some w → is_of_log w.1.purpose ≡ false
     none_some w e = absurd (cc)
 
-    go : (sector : ℕ) (wanted : Bool) (kept : Kept) (dirt : Option Dirt) (w : ℕ × Write) →
-        option_map (λ write. (sector, write)) (place_write number wanted kept dirt) ≡ Some w → is_of_log w.1.purpose ≡ false
-    go sector wanted kept None w e = none_some w e
-    go sector false kept (Some dirt) w e = none_some w e
-    go sector true kept (Some dirt) w e = ap purpose_of (sym e)
+    go : (sector : ℕ) (wanted : Bool) (cached : CachedSector) (dirt : Option Dirt) (w : ℕ × Write) →
+        option_map (λ write. (sector, write)) (place_write number wanted cached dirt) ≡ Some w → is_of_log w.1.purpose ≡ false
+    go sector wanted cached None w e = none_some w e
+    go sector false cached (Some dirt) w e = none_some w e
+    go sector true cached (Some dirt) w e = ap purpose_of (sym e)
 
 -- one of the log is of the first number not issued
 pub record IsNextOfLog (logs : LogRules) (a : ℕ) (server : Server) (sector number : ℕ) : Type 0 where

@@ -18,7 +18,8 @@ use Rattle.ring_definitions.specs.Rings.{first_waiting, last, ring_at, sent}
 use Rattle.sector_bytes.specs.Blocks.{Block}
 use Rattle.sector_bytes.specs.SectorMaps.{value_at, with_value}
 use Rattle.tree_definitions.specs.Transcript.{asks_change}
-use Rattle.core_definitions.specs.Caches.{Cache, Dirt, Kept, any_kept, clean, dropped, each_kept, is_dirty}
+use Rattle.cache_definitions.specs.declared.dirt.Dirt.{Dirt}
+use Rattle.cache_definitions.specs.Caches.{Cache, CachedSector, any_cached, clean, dropped, each_cached, is_dirty}
 use Rattle.core_definitions.specs.Flights.{Flight, Flights, each_of_server, has_flights, is_of_mount, left_behind}
 use Rattle.core_definitions.specs.Lines.{Stage, Under}
 use Rattle.core_definitions.specs.Plans.{Outcome}
@@ -28,11 +29,11 @@ use Rattle.core_definitions.specs.Settings.{LogRules, Setting}
 use Rattle.core_definitions.specs.Cores.{Core, clean_at}
 use Rattle.core_definitions.specs.Recoveries.{Recovery}
 use Rattle.core_definitions.specs.Writes.{Write, Writes, is_place_wanted, log_wanted_to, log_write, place_write, place_writes, rescue_writes, wanted_writes}
-use Rattle.core_definitions.specs.LineEffects.{cache_after, change_in, changed_by, committed_by, flight_after, kept_after, purpose_after, ring_after}
+use Rattle.core_definitions.specs.LineEffects.{cache_after, change_in, changed_by, committed_by, flight_after, purpose_after, ring_after, sector_after}
 use Rattle.core_transcripts.proofs.Staging.{HasNoChanges}
 
 pub record IsBlank (server : Server) (flying : Bool) : Type 0 where
-  pub cache : any_kept is_dirty server.cache ≡ false
+  pub cache : any_cached is_dirty server.cache ≡ false
   pub waiting : server.ring.waiting ≡ []
   pub reached : is_all_reached server.ring ≡ true
   pub recovery : server.recovery ≡ None
@@ -54,47 +55,47 @@ Keeps dirty server flying = IsSpotless dirty server → IsBlank server flying
 
 -- ---- caches
 
-pub fetched_blank : (cache : Cache) (sector : ℕ) (block : Block) (cover : LockId) → any_kept is_dirty cache ≡ false → any_kept is_dirty (with_value cache sector (clean block cover)) ≡ false
+pub fetched_blank : (cache : Cache) (sector : ℕ) (block : Block) (cover : LockId) → any_cached is_dirty cache ≡ false → any_cached is_dirty (with_value cache sector (clean block cover)) ≡ false
 fetched_blank [] sector block cover h = refl
 fetched_blank (e ∷ es) sector block cover h =
-    let r : (is_dirty e.1 ≡ false) × (any_kept is_dirty es ≡ false) = or_parts (is_dirty e.1) (any_kept is_dirty es) h in
+    let r : (is_dirty e.1 ≡ false) × (any_cached is_dirty es ≡ false) = or_parts (is_dirty e.1) (any_cached is_dirty es) h in
     go (nat_cmp sector e.0) r.0 r.1 (fetched_blank es sector block cover r.1)
   where
-    go : (o : Ordering) → is_dirty e.1 ≡ false → any_kept is_dirty es ≡ false → any_kept is_dirty (with_value es sector (clean block cover)) ≡ false →
-        any_kept is_dirty (match_ordering o ((sector, clean block cover) ∷ e ∷ es) ((e.0, clean block cover) ∷ es) (e ∷ with_value es sector (clean block cover))) ≡ false
-    go Less here rest then_ = or_from (is_dirty e.1) (any_kept is_dirty es) here rest
+    go : (o : Ordering) → is_dirty e.1 ≡ false → any_cached is_dirty es ≡ false → any_cached is_dirty (with_value es sector (clean block cover)) ≡ false →
+        any_cached is_dirty (match_ordering o ((sector, clean block cover) ∷ e ∷ es) ((e.0, clean block cover) ∷ es) (e ∷ with_value es sector (clean block cover))) ≡ false
+    go Less here rest then_ = or_from (is_dirty e.1) (any_cached is_dirty es) here rest
     go Equal here rest then_ = rest
-    go Greater here rest then_ = or_from (is_dirty e.1) (any_kept is_dirty (with_value es sector (clean block cover))) here then_
+    go Greater here rest then_ = or_from (is_dirty e.1) (any_cached is_dirty (with_value es sector (clean block cover))) here then_
 
-pub dropped_blank : (cache : Cache) (lock : LockId) → any_kept is_dirty cache ≡ false → any_kept is_dirty (dropped cache lock) ≡ false
+pub dropped_blank : (cache : Cache) (lock : LockId) → any_cached is_dirty cache ≡ false → any_cached is_dirty (dropped cache lock) ≡ false
 dropped_blank [] lock h = refl
 dropped_blank (e ∷ es) lock h =
-    let r : (is_dirty e.1 ≡ false) × (any_kept is_dirty es ≡ false) = or_parts (is_dirty e.1) (any_kept is_dirty es) h in
+    let r : (is_dirty e.1 ≡ false) × (any_cached is_dirty es ≡ false) = or_parts (is_dirty e.1) (any_cached is_dirty es) h in
     go (not (is_lock lock e.1.cover)) r.0 (dropped_blank es lock r.1)
   where
-    go : (b : Bool) → is_dirty e.1 ≡ false → any_kept is_dirty (dropped es lock) ≡ false → any_kept is_dirty (cond b (e ∷ dropped es lock) (dropped es lock)) ≡ false
-    go true here rest = or_from (is_dirty e.1) (any_kept is_dirty (dropped es lock)) here rest
+    go : (b : Bool) → is_dirty e.1 ≡ false → any_cached is_dirty (dropped es lock) ≡ false → any_cached is_dirty (cond b (e ∷ dropped es lock) (dropped es lock)) ≡ false
+    go true here rest = or_from (is_dirty e.1) (any_cached is_dirty (dropped es lock)) here rest
     go false here rest = rest
 
 -- each sector as dirty as it was
-each_blank : (change : ℕ → Kept → Kept) → ((sector : ℕ) (kept : Kept) → is_dirty (change sector kept) ≡ is_dirty kept) → (cache : Cache) → any_kept is_dirty (each_kept change cache) ≡ any_kept is_dirty cache
+each_blank : (change : ℕ → CachedSector → CachedSector) → ((sector : ℕ) (cached : CachedSector) → is_dirty (change sector cached) ≡ is_dirty cached) → (cache : Cache) → any_cached is_dirty (each_cached change cache) ≡ any_cached is_dirty cache
 each_blank change same [] = refl
 each_blank change same (e ∷ es) =
-    ap (λ b. b || any_kept is_dirty (each_kept change es)) (same e.0 e.1) ∙ ap (λ b. is_dirty e.1 || b) (each_blank change same es)
+    ap (λ b. b || any_cached is_dirty (each_cached change es)) (same e.0 e.1) ∙ ap (λ b. is_dirty e.1 || b) (each_blank change same es)
 
 -- a line that changes nothing leaves the cache as dirty as it was
-looked_cache : (mark : ℕ) (outcome : Outcome) → HasNoChanges outcome → (cache : Cache) → any_kept is_dirty (cache_after mark outcome cache) ≡ any_kept is_dirty cache
+looked_cache : (mark : ℕ) (outcome : Outcome) → HasNoChanges outcome → (cache : Cache) → any_cached is_dirty (cache_after mark outcome cache) ≡ any_cached is_dirty cache
 looked_cache mark outcome n cache =
-    ap (λ bytes. any_kept is_dirty (cache_after mark (record outcome { bytes = bytes }) cache)) n.bytes
-    ∙ ap (λ freed. any_kept is_dirty (cache_after mark (record outcome { bytes = []; freed = freed }) cache)) n.freed
-    ∙ each_blank (kept_after mark outcome) same cache
+    ap (λ bytes. any_cached is_dirty (cache_after mark (record outcome { bytes = bytes }) cache)) n.bytes
+    ∙ ap (λ freed. any_cached is_dirty (cache_after mark (record outcome { bytes = []; freed = freed }) cache)) n.freed
+    ∙ each_blank (sector_after mark outcome) same cache
   where
-    by_redo : (o : Option Redo) → o ≡ None → (cover : LockId) (sector : ℕ) (kept : Kept) → is_dirty (changed_by mark cover (change_in o sector) kept) ≡ is_dirty kept
-    by_redo None e cover sector kept = refl
-    by_redo (Some r) e cover sector kept = absurd (cc)
+    by_redo : (o : Option Redo) → o ≡ None → (cover : LockId) (sector : ℕ) (cached : CachedSector) → is_dirty (changed_by mark cover (change_in o sector) cached) ≡ is_dirty cached
+    by_redo None e cover sector cached = refl
+    by_redo (Some r) e cover sector cached = absurd (cc)
 
-    same : (sector : ℕ) (kept : Kept) → is_dirty (kept_after mark outcome sector kept) ≡ is_dirty kept
-    same sector kept = by_redo outcome.redo n.redo (unwrap_or (outcome.moves sector) kept.cover) sector kept
+    same : (sector : ℕ) (cached : CachedSector) → is_dirty (sector_after mark outcome sector cached) ≡ is_dirty cached
+    same sector cached = by_redo outcome.redo n.redo (unwrap_or (outcome.moves sector) cached.cover) sector cached
 
 pub looked_blank : (outcome : Outcome) (server : Server) (flying flying' : Bool) → HasNoChanges outcome → flying' ≡ false → IsBlank server flying → IsBlank (committed_by outcome server) flying'
 looked_blank outcome server flying flying' n landed b = record {
@@ -116,11 +117,11 @@ mounted_reached n = next_is n
 -- ---- nothing is wanted written
 
 -- the write of a cached sector, where it is wanted
-abbrev wanted_at : LogRules → Locks → ℕ → Server → Option Stage → (ℕ × Kept) → Option (ℕ × Write)
+abbrev wanted_at : LogRules → Locks → ℕ → Server → Option Stage → (ℕ × CachedSector) → Option (ℕ × Write)
 wanted_at logs locks number server stage entry =
     option_map (λ write. (entry.0, write)) (place_write number (is_place_wanted logs locks number server stage entry.0 entry.1) entry.1 entry.1.dirt)
 
-clean_wants : (logs : LogRules) (locks : Locks) (number : ℕ) (server : Server) (stage : Option Stage) (entry : (ℕ × Kept)) → is_dirty entry.1 ≡ false → wanted_at logs locks number server stage entry ≡ None
+clean_wants : (logs : LogRules) (locks : Locks) (number : ℕ) (server : Server) (stage : Option Stage) (entry : (ℕ × CachedSector)) → is_dirty entry.1 ≡ false → wanted_at logs locks number server stage entry ≡ None
 clean_wants logs locks number server stage entry h = by_dirt entry.1.dirt h refl
   where
     none_wanted : (o : Option Write) → o ≡ None → (sector : ℕ) → option_map (λ write. let x : ℕ × Write = (sector, write) in x) o ≡ None
@@ -133,10 +134,10 @@ clean_wants logs locks number server stage entry h = by_dirt entry.1.dirt h refl
         (ap (place_write number (is_place_wanted logs locks number server stage entry.0 entry.1) entry.1) e) entry.0
     by_dirt (Some dirt) h e = absurd (false≢true (sym h))
 
-no_places : (logs : LogRules) (locks : Locks) (number : ℕ) (server : Server) (stage : Option Stage) (cache : Cache) → any_kept is_dirty cache ≡ false → filter_map (wanted_at logs locks number server stage) cache ≡ []
+no_places : (logs : LogRules) (locks : Locks) (number : ℕ) (server : Server) (stage : Option Stage) (cache : Cache) → any_cached is_dirty cache ≡ false → filter_map (wanted_at logs locks number server stage) cache ≡ []
 no_places logs locks number server stage [] h = refl
 no_places logs locks number server stage (e ∷ es) h =
-    let r : (is_dirty e.1 ≡ false) × (any_kept is_dirty es ≡ false) = or_parts (is_dirty e.1) (any_kept is_dirty es) h in
+    let r : (is_dirty e.1 ≡ false) × (any_cached is_dirty es ≡ false) = or_parts (is_dirty e.1) (any_cached is_dirty es) h in
     ap (λ o. cons_option o (filter_map (wanted_at logs locks number server stage) es)) (clean_wants logs locks number server stage e r.0)
     ∙ no_places logs locks number server stage es r.1
 
@@ -200,7 +201,7 @@ flies (x ∷ xs) ticket i flight e h =
 
 -- it is clean
 pub blank_is_clean : (c : Core) (a : ℕ) → IsBlank (c.servers a) (has_flights c.flights a) → clean_at c a ≡ true
-blank_is_clean c a b = go (any_kept is_dirty (c.servers a).cache) (has_flights c.flights a) (is_all_reached (c.servers a).ring) (c.servers a).recovery b.cache b.landed b.reached b.recovery
+blank_is_clean c a b = go (any_cached is_dirty (c.servers a).cache) (has_flights c.flights a) (is_all_reached (c.servers a).ring) (c.servers a).recovery b.cache b.landed b.reached b.recovery
   where
     go : (x y z : Bool) (o : Option Recovery) → x ≡ false → y ≡ false → z ≡ true → o ≡ None → (not x && not y && z && not (is_some o)) ≡ true
     go true y z o e f g h = absurd (false≢true (sym e))

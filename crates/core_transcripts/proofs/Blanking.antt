@@ -14,7 +14,7 @@ use Rattle.tree_definitions.specs.Apply.{is_path_op}
 use Rattle.tree_definitions.specs.Live.{line_of}
 use Rattle.tree_definitions.specs.Touched.{is_mounted}
 use Rattle.tree_definitions.specs.Transcript.{asks_change, dirty_after, is_change_line, may_change}
-use Rattle.core_definitions.specs.Caches.{any_kept, is_dirty}
+use Rattle.cache_definitions.specs.Caches.{any_cached, is_dirty}
 use Rattle.core_definitions.specs.Lines.{Stage, Asking, Fetching, Moving, Stopping, Growing, Clearing, Finishing, Under, operation_of, stage_at}
 use Rattle.core_definitions.specs.Plans.{Outcome}
 use Rattle.core_definitions.specs.Recoveries.{Recovery}
@@ -46,7 +46,7 @@ gone d new x e s = absurd (false≢true (sym e ∙ s.mounted))
 
 pub same_blank : (old new : Server) (x : Bool) → new.cache ≡ old.cache → new.ring ≡ old.ring → new.recovery ≡ old.recovery → IsBlank old x → IsBlank new x
 same_blank old new x c r v b = record {
-  cache = ap (λ z. any_kept is_dirty z) c ∙ b.cache;
+  cache = ap (λ z. any_cached is_dirty z) c ∙ b.cache;
   waiting = ap (λ z. z.waiting) r ∙ b.waiting;
   reached = ap is_all_reached r ∙ b.reached;
   recovery = v ∙ b.recovery;

@@ -23,7 +23,7 @@ use Rattle.tree_definitions.specs.Apply.{is_path_op}
 use Rattle.tree_definitions.specs.Touched.{is_ok, is_unmount}
 use Rattle.tree_definitions.specs.Transcript.{Faults, is_io, is_node, is_unexplained, may_be_dirty}
 use Rattle.core_definitions.specs.Settings.{lease_to}
-use Rattle.core_definitions.specs.Caches.{dropped}
+use Rattle.cache_definitions.specs.Caches.{dropped}
 use Rattle.core_definitions.specs.Flights.{Flight}
 use Rattle.core_definitions.specs.Lines.{Stage, Asking, Fetching, Moving, Stopping, Growing, Clearing, Finishing, Under, operation_of}
 use Rattle.core_definitions.specs.Plans.{Outcome}

@@ -22,7 +22,7 @@ use Rattle.tree_definitions.specs.Live.{line_of}
 use Rattle.tree_definitions.specs.Touched.{is_mounted, is_ok, is_unmount}
 use Rattle.tree_definitions.specs.Transcript.{Faults, dirty_after, dirty_from, is_already, is_change_line, is_halt, is_mount, is_node}
 use Rattle.core_definitions.specs.Settings.{lease_to}
-use Rattle.core_definitions.specs.Caches.{dropped}
+use Rattle.cache_definitions.specs.Caches.{dropped}
 use Rattle.core_definitions.specs.Flights.{Flight, Flights, InPlace, OfLog, OfRecovery, Purpose, each_of_server, has_flights, left_behind, lost}
 use Rattle.core_definitions.specs.Lines.{Stage, Asking, Fetching, Moving, Stopping, Growing, Clearing, Finishing, Under, operation_of}
 use Rattle.core_definitions.specs.Logs.{end_of, is_read}

@@ -12,7 +12,7 @@ use Rattle.disk_definitions.specs.Ask.Met.{Needs, Has}
 use Rattle.disk_definitions.specs.Plans.{Finish, Lock, Plan}
 use Rattle.disk_definitions.specs.Plans.Plan.{Lacks, Clears, Finishes}
 use Rattle.disk_definitions.specs.Written.{hand_of}
-use Rattle.core_definitions.specs.Caches.{Cache}
+use Rattle.cache_definitions.specs.Caches.{Cache}
 use Rattle.core_definitions.specs.Lines.{Comparison, HasMoved, HasStopped, HasGoneThrough, Seen, Stage, Asking, Fetching, Moving, Stopping, Growing, Clearing, Finishing, Under, compared, missing_bitmaps, needed_mode, needing, once_through, or_grown, seen_more, sole_segment, stage_asked, stage_at, stage_by, stage_held, stage_over}
 use Rattle.core_definitions.specs.Plans.{Outcome, Sight, clear_needs, cover_of, examined_in, finish_needs, known_in, nodes_looked_at, outcome_of, planned, program_of, sight_of}
 use Rattle.core_definitions.specs.Sets.{LockSet, has_lock, lacks, next_segment, to_ask}

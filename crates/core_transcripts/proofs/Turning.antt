@@ -16,7 +16,7 @@ use Rattle.sector_bytes.specs.Sectors.{Sectors}
 use Rattle.tree_definitions.specs.History.{Opening}
 use Rattle.tree_definitions.specs.Transcript.{Faults, may_be_dirty}
 use Rattle.core_definitions.specs.Settings.{lease_to}
-use Rattle.core_definitions.specs.Caches.{dropped}
+use Rattle.cache_definitions.specs.Caches.{dropped}
 use Rattle.core_definitions.specs.Lines.{operation_of}
 use Rattle.core_definitions.specs.Flights.{Flight}
 use Rattle.core_definitions.specs.Recoveries.{Recovery}

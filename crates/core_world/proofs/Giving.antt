@@ -22,7 +22,8 @@ use Rattle.lock_definitions.proofs.LockOrder.{found_lock, is_lock_equiv}
 use Rattle.sector_bytes.specs.Blocks.{Block}
 use Rattle.sector_bytes.specs.SectorMaps.{value_at, Ascend}
 use Rattle.sector_bytes.specs.Sectors.{Sectors}
-use Rattle.core_definitions.specs.Caches.{Cache, Dirt, Kept, any_kept, dropped, is_dirty, is_dirty_under}
+use Rattle.cache_definitions.specs.declared.dirt.Dirt.{Dirt}
+use Rattle.cache_definitions.specs.Caches.{Cache, CachedSector, any_cached, dropped, is_dirty, is_dirty_under}
 use Rattle.core_definitions.specs.Flights as core
 use Rattle.core_definitions.specs.Flights.{Flights, InPlace, has_flights_under, is_of_mount, is_under}
 use Rattle.core_definitions.specs.Rings.{is_all_reached}
@@ -63,7 +64,7 @@ up_is life.Still t = absurd (cc)
 up_is (life.Doomed fate) t = absurd (cc)
 up_is life.Dead t = absurd (cc)
 
-none_kept : (test : Kept → Bool) (cache : Cache) → any_kept test cache ≡ false → (s : ℕ) (kept : Kept) → value_at cache s ≡ Some kept → test kept ≡ false
+none_kept : (test : CachedSector → Bool) (cache : Cache) → any_cached test cache ≡ false → (s : ℕ) (kept : CachedSector) → value_at cache s ≡ Some kept → test kept ≡ false
 none_kept test [] none s kept e = absurd (cc)
 none_kept test (entry ∷ entries) none s kept e = go (is_at (nat_cmp s) entry.0) e (none_kept test entries (or_parts (test entry.1) _ none).1 s kept)
   where
@@ -79,7 +80,7 @@ none_among test (y ∷ ys) none x (inr i) = none_among test ys (or_parts (test y
 -- ---- the guard
 
 -- what isn't dirty under the lock isn't dirty in the world
-clean_slot : (v : Bool) (k lock : LockId) (e : Option Kept) (slot : Slot) (page : Page) → IsCachedAs v k e slot page → ((kept : Kept) → e ≡ Some kept → is_dirty_under lock kept ≡ false) → k ≡ lock → NotDirty slot
+clean_slot : (v : Bool) (k lock : LockId) (e : Option CachedSector) (slot : Slot) (page : Page) → IsCachedAs v k e slot page → ((kept : CachedSector) → e ≡ Some kept → is_dirty_under lock kept ≡ false) → k ≡ lock → NotDirty slot
 clean_slot true k lock None slot page t clean at = subst NotDirty (sym t) tt
 clean_slot false k lock None slot page t clean at = subst NotDirty (sym t.0) tt
 clean_slot false k lock (Some kept) slot page t clean at = subst NotDirty (sym t.1) tt
@@ -92,7 +93,7 @@ clean_slot true k lock (Some kept) slot page t clean at = go kept.dirt refl t.1
     go None e i = subst NotDirty (sym i) tt
     go (Some dirt) e i = absurd (false≢true (sym (clean kept refl) ∙ ap (λ b. b && is_dirty kept) under ∙ ap is_some e))
 
-clean_page : (v : Bool) (k lock : LockId) (e : Option Kept) (slot : Slot) (page : Page) → IsCachedAs v k e slot page → (v ≡ true → page ≡ NoPage) → ((kept : Kept) → e ≡ Some kept → is_dirty_under lock kept ≡ false) → k ≡ lock → NoDirtyPage page
+clean_page : (v : Bool) (k lock : LockId) (e : Option CachedSector) (slot : Slot) (page : Page) → IsCachedAs v k e slot page → (v ≡ true → page ≡ NoPage) → ((kept : CachedSector) → e ≡ Some kept → is_dirty_under lock kept ≡ false) → k ≡ lock → NoDirtyPage page
 clean_page true k lock e slot page t empty clean at = subst NoDirtyPage (sym (empty refl)) tt
 clean_page false k lock None slot page t empty clean at = ⊎_elim (λ i. subst NoDirtyPage (sym i) tt) (λ i. subst NoDirtyPage (sym i.1) tt) t.1
 clean_page false k lock (Some kept) slot page t empty clean at = go kept.dirt refl t.2
@@ -125,7 +126,7 @@ flies_under flights now s lock a stamp block fresh none f early =
     ofm p e = both (f.one.1.server == a) f.one.1.present (itself f.one.1.server a e) p
 
 module _ (c : Core) (disk : Sectors) (w : World) (a : ℕ) (lock : LockId) (t : AreTied c disk w) (going : c.over ≡ false) (g : Good w) (fresh : OwnAreFresh c a) (can : core_guards.CanGive c a lock) where
-  no_dirt : (s : ℕ) (kept : Kept) → value_at (c.servers a).cache s ≡ Some kept → is_dirty_under lock kept ≡ false
+  no_dirt : (s : ℕ) (kept : CachedSector) → value_at (c.servers a).cache s ≡ Some kept → is_dirty_under lock kept ≡ false
   no_dirt s kept e = none_kept (is_dirty_under lock) (c.servers a).cache (not-true _ can.clean) s kept e
 
   sole_is : held c.locks a lock ≡ Some Sole → core_guards.is_sole c a lock ≡ true
@@ -151,7 +152,7 @@ module _ (c : Core) (disk : Sectors) (w : World) (a : ℕ) (lock : LockId) (t : 
 
 -- ---- what is cached afterwards
 
-given_as : (v : Bool) (k l : LockId) (e : Option Kept) (slot : Slot) (page : Page) → IsCachedAs v k e slot page →
+given_as : (v : Bool) (k l : LockId) (e : Option CachedSector) (slot : Slot) (page : Page) → IsCachedAs v k e slot page →
     IsCachedAs v k (unless_under l e) (if same_lock k l then Absent else slot) (if same_lock k l then NoPage else page)
 given_as true k l None slot page t = by (same_lock k l)
   where
@@ -175,7 +176,7 @@ given_as v k l (Some kept) slot page t = subst (λ b. IsCachedAs v k (if b then 
     by true false i = i
     by false false i = i
 
-lowered_page : (v : Bool) (k : LockId) (e : Option Kept) (slot : Slot) (page : Page) (b : Bool) → IsCachedAs v k e slot page → IsCachedAs v k e slot (if b then page_lowered page else page)
+lowered_page : (v : Bool) (k : LockId) (e : Option CachedSector) (slot : Slot) (page : Page) (b : Bool) → IsCachedAs v k e slot page → IsCachedAs v k e slot (if b then page_lowered page else page)
 lowered_page v k e slot page false t = t
 lowered_page true k None slot page true t = t
 lowered_page true k (Some kept) slot page true t = t
@@ -187,7 +188,7 @@ lowered_page false k (Some kept) slot page true t = (t.0, t.1, go kept.dirt t.2)
     go (Some dirt) i = (i.0, ap page_lowered i.1)
 
 -- marks stay where less is cached
-marked_given : (reached acked : ℕ) (l : LockId) (e : Option Kept) (slot : Slot) (page : Page) (b : Bool) → IsMarkedAs reached acked e slot page →
+marked_given : (reached acked : ℕ) (l : LockId) (e : Option CachedSector) (slot : Slot) (page : Page) (b : Bool) → IsMarkedAs reached acked e slot page →
     IsMarkedAs reached acked (unless_under l e) (if b then Absent else slot) (if b then NoPage else page)
 marked_given reached acked l None slot page b t = tt
 marked_given reached acked l (Some kept) slot page b t = by (is_lock l kept.cover) b
@@ -201,7 +202,7 @@ marked_given reached acked l (Some kept) slot page b t = by (is_lock l kept.cove
     by false true = dirt kept.dirt
     by false false = t
 
-marked_lowered : (reached acked : ℕ) (e : Option Kept) (slot : Slot) (page : Page) (b : Bool) → IsMarkedAs reached acked e slot page → IsMarkedAs reached acked e slot (if b then page_lowered page else page)
+marked_lowered : (reached acked : ℕ) (e : Option CachedSector) (slot : Slot) (page : Page) (b : Bool) → IsMarkedAs reached acked e slot page → IsMarkedAs reached acked e slot (if b then page_lowered page else page)
 marked_lowered reached acked e slot page false t = t
 marked_lowered reached acked None slot page true t = tt
 marked_lowered reached acked (Some kept) slot page true t = by kept.dirt t

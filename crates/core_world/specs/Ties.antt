@@ -13,7 +13,8 @@ use Rattle.sector_bytes.specs.Sectors.{Sectors}
 use Rattle.disk_definitions.specs.Regions.{region_of}
 use Rattle.disk_definitions.specs.declared.region.Region.{Region}
 use Rattle.disk_definitions.specs.declared.region.Region.TheVariants as region
-use Rattle.core_definitions.specs.Caches.{Dirt, Kept}
+use Rattle.cache_definitions.specs.declared.dirt.Dirt.{Dirt}
+use Rattle.cache_definitions.specs.Caches.{CachedSector}
 use Rattle.core_definitions.specs.Flights as core
 use Rattle.core_definitions.specs.Recoveries.{Recovery, is_written}
 use Rattle.core_definitions.specs.Scripts.{host_party}
@@ -78,7 +79,7 @@ abbrev pub IsNoPage : Page → Type 0
 IsNoPage page = (page ≡ NoPage) ⊎ ((m : ℕ) × (page ≡ FreedPage m))
 
 -- by the side that counts; the cover kept is the cover
-abbrev pub IsCachedAs : Bool → LockId → Option Kept → Slot → Page → Type 0
+abbrev pub IsCachedAs : Bool → LockId → Option CachedSector → Slot → Page → Type 0
 IsCachedAs true lock None slot page = slot ≡ Absent
 IsCachedAs true lock (Some kept) slot page = (kept.cover ≡ lock) × IsSlotOf kept.dirt kept.block slot
 IsCachedAs false lock None slot page = (slot ≡ Absent) × IsNoPage page
@@ -105,7 +106,7 @@ abbrev pub IsDirtAs : (reached acked : ℕ) → Option Dirt → Slot → Page �
 IsDirtAs reached acked None slot page = Unit {0}
 IsDirtAs reached acked (Some dirt) slot page = IsSlotMark reached acked dirt.mark slot × IsPageMark reached acked dirt.mark page
 
-abbrev pub IsMarkedAs : (reached acked : ℕ) → Option Kept → Slot → Page → Type 0
+abbrev pub IsMarkedAs : (reached acked : ℕ) → Option CachedSector → Slot → Page → Type 0
 IsMarkedAs reached acked None slot page = Unit {0}
 IsMarkedAs reached acked (Some kept) slot page = IsDirtAs reached acked kept.dirt slot page
 

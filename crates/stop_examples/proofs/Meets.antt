@@ -10,7 +10,7 @@ use Rattle.frang_base.specs.declared.op.Op.TheVariants as op
 use Rattle.frang_base.specs.declared.reply.Reply.TheVariants as reply
 use Rattle.tree_definitions.specs.Tree.{fresh}
 use Rattle.disk_definitions.specs.Regions.{region_of}
-use Rattle.code_plan_laws.specs.Fresh.{fresh_disk}
+use Rattle.disk_definitions.specs.FreshDisk.{fresh_disk}
 use Rattle.sector_world.specs.Histories.{settled}
 use Rattle.sector_world.specs.Kinds.{Good}
 use Rattle.sector_world.specs.Planned.{IsLegal}

@@ -1,7 +1,5 @@
 -- A piece's marks come before those of the pieces that are left.
-use Rattle.std.proofs.Common.{◌≡◌, ◌+◌, ◌++◌, drop, ap, sym, ◌∙◌, append_assoc}
-use Rattle.std.specs.List.{filter_map}
-use Rattle.ordered_map.specs.Chunks.{joined}
+use Rattle.std.proofs.Common.{◌++◌, ap, ◌∙◌}
 use Rattle.clerk_cache.specs.Kept.{state_marks}
 use Rattle.clerk_cache.proofs.Pieces.{next_piece}
 use Rattle.clerk_cache.proofs.cache.marks_of.Goals as goal

@@ -1,5 +1,5 @@
 -- The old key is out before the new one goes in, and where they are the same both stay.
-use Rattle.std.proofs.Common.{◌≡◌, sym, ap, ◌∙◌}
+use Rattle.std.proofs.Common.{sym, ap, ◌∙◌}
 use Rattle.clerk_cache.specs.Keys.{with_key, without_key}
 use Rattle.clerk_cache.proofs.Keying.{taken}
 use Rattle.clerk_cache.proofs.keys.exchange.Goals as goal

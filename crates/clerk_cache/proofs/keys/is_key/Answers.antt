@@ -1,5 +1,5 @@
 -- A key that is equal is the same.
-use Rattle.std.proofs.Common.{◌≡◌, true, Some, sym, ap, ◌∙◌}
+use Rattle.std.proofs.Common.{Some, sym, ap, ◌∙◌}
 use Rattle.std.specs.Ordering.{is_eq}
 use Rattle.clerk_cache.proofs.keys.is_key.Goals as goal
 

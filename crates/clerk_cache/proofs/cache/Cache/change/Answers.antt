@@ -1,10 +1,9 @@
 -- The block is changed first, and then the rest.
 use Rattle.std.proofs.Common.{ap, sym, ◌∙◌, subst}
 use Rattle.sector_bytes.specs.Changes.{changed}
-use Rattle.clerk_cache.specs.Cached.{block_at}
+use Rattle.cache_definitions.specs.Caches.{block_at, with_change}
 use Rattle.meta_version.specs.Updates.{IsOlder}
 use Rattle.clerk_cache.proofs.Joining.{block_at-joined, kept_changed}
-use Rattle.clerk_cache.specs.Changing.{with_change}
 use Rattle.clerk_cache.proofs.Edits.{still_there, then_marked}
 use Rattle.clerk_cache.proofs.cache.Cache.change.Goals as goal
 

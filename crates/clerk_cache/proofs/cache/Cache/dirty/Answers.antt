@@ -3,7 +3,7 @@ use Rattle.std.proofs.Common.{sym, ap, ◌∙◌, subst}
 use Rattle.std.specs.List.Sorted.{IsStrictlySortedBy}
 use Rattle.std.specs.Ordering.{nat_cmp, on}
 use Rattle.sector_bytes.specs.SectorMaps.{Ascend}
-use Rattle.clerk_cache.specs.Cached.{marks_of}
+use Rattle.clerk_cache.specs.Marks.{marks_of}
 use Rattle.clerk_cache.specs.Kept.{state_marks}
 use Rattle.clerk_cache.proofs.Joining.{ascend_joined}
 use Rattle.clerk_cache.proofs.Dropped.{marks-joined, marks_ascend, if_ok}

@@ -1,6 +1,6 @@
 -- The block of the joined entries is that of the sectors.
 use Rattle.std.proofs.Common.{ap, ◌∙◌}
-use Rattle.clerk_cache.specs.Cached.{block_at}
+use Rattle.cache_definitions.specs.Caches.{block_at}
 use Rattle.clerk_cache.proofs.Joining.{block_at-joined}
 use Rattle.clerk_cache.proofs.cache.Cache.get.Goals as goal
 

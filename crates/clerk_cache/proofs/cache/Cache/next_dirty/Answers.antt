@@ -1,7 +1,7 @@
 -- The least mark of the states is that of the sectors.
-use Rattle.std.proofs.Common.{sym, ap, ◌∙◌}
-use Rattle.flush_order.specs.Marks.{sector_reached, least, next_reached}
-use Rattle.clerk_cache.specs.Cached.{marks_of}
+use Rattle.std.proofs.Common.{ap, ◌∙◌}
+use Rattle.flush_order.specs.Marks.{sector_reached, next_reached}
+use Rattle.clerk_cache.specs.Marks.{marks_of}
 use Rattle.clerk_cache.proofs.Dropped.{marks-joined}
 use Rattle.clerk_cache.proofs.cache.Cache.next_dirty.Goals as goal
 

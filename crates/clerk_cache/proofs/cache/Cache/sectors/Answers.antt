@@ -1,6 +1,6 @@
 -- The blocks of the joined entries are those of the sectors.
 use Rattle.std.proofs.Common.{sym, ap, ◌∙◌}
-use Rattle.clerk_cache.specs.Cached.{blocks_of}
+use Rattle.cache_definitions.specs.Caches.{blocks_of}
 use Rattle.clerk_cache.proofs.Joining.{blocks_of-joined}
 use Rattle.clerk_cache.proofs.cache.Cache.sectors.Goals as goal
 

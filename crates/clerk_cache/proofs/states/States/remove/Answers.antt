@@ -4,9 +4,9 @@ use Rattle.sector_bytes.specs.SectorMaps.{Ascend, value_at, without}
 use Rattle.sector_bytes.proofs.MapLaws.{ascend_without}
 use Rattle.flush_order.specs.Marks.{mark_cmp}
 use Rattle.flush_order.proofs.MarkOrder.{marks}
-use Rattle.clerk_cache.specs.Kept.{state_mark}
+use Rattle.clerk_cache.specs.Kept.{is_state_dirty, state_mark}
 use Rattle.clerk_cache.specs.Keys.{keyed}
-use Rattle.clerk_cache.specs.Covers.{cover_cmp, cover_key, is_any, is_dirty}
+use Rattle.clerk_cache.specs.Covers.{cover_cmp, cover_key, is_any}
 use Rattle.clerk_cache.proofs.CoverOrder.{covers, other_marks, other_covers}
 use Rattle.clerk_cache.proofs.Keying.{taken_keys, shorter}
 use Rattle.clerk_cache.proofs.states.States.remove.Goals as goal
@@ -23,8 +23,8 @@ invariant_of-self c =
           ∙ ap (keyed mark_cmp state_mark) (sym c.take_near.ensures.entries);
       covers = c.take_out-2.ensures.keys ∙ taken_keys covers (cover_key is_any) s (λ state entry other. other_covers s state entry other is_any) o states c.self.invariant.ascend there c.self.inside.covers.entries c.keys_of-old.result.cover c.self.invariant.covers c.keys_of-old.ensures.cover
           ∙ ap (keyed cover_cmp (cover_key is_any)) (sym c.take_near.ensures.entries);
-      dirty = c.take_out-3.ensures.keys ∙ taken_keys covers (cover_key is_dirty) s (λ state entry other. other_covers s state entry other is_dirty) o states c.self.invariant.ascend there c.self.inside.dirty.entries c.keys_of-old.result.dirty c.self.invariant.dirty c.keys_of-old.ensures.dirty
-          ∙ ap (keyed cover_cmp (cover_key is_dirty)) (sym c.take_near.ensures.entries);
+      dirty = c.take_out-3.ensures.keys ∙ taken_keys covers (cover_key is_state_dirty) s (λ state entry other. other_covers s state entry other is_state_dirty) o states c.self.invariant.ascend there c.self.inside.dirty.entries c.keys_of-old.result.dirty c.self.invariant.dirty c.keys_of-old.ensures.dirty
+          ∙ ap (keyed cover_cmp (cover_key is_state_dirty)) (sym c.take_near.ensures.entries);
       mark_room = omega (arith, ap length c.take_near.ensures.entries, shorter s states, c.take_out.ensures.most, c.self.invariant.mark_room, c.self.invariant.cover_room, c.self.invariant.dirty_room);
       cover_room = omega (arith, ap length c.take_near.ensures.entries, shorter s states, c.take_out-2.ensures.most, c.self.invariant.mark_room, c.self.invariant.cover_room, c.self.invariant.dirty_room);
       dirty_room = omega (arith, ap length c.take_near.ensures.entries, shorter s states, c.take_out-3.ensures.most, c.self.invariant.mark_room, c.self.invariant.cover_room, c.self.invariant.dirty_room);
