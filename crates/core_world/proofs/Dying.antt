@@ -1,10 +1,10 @@
--- Die is Crash. Where what it has in flight goes with it, each of these writes fades; here it stays in flight, of an earlier mount.
-use Rattle.std.proofs.Common.{◌≡◌, ◌≢◌, ◌⊎◌, ℕ, ◌≤◌, ◌==◌, Bool, true, false, ◌&&◌, ◌||◌, if◌then◌else◌, IsTrue, [], ◌∷◌, Some, None, nat_eq, refl, sym, ap, ◌∙◌, subst, inl, inr, ⊎_elim, arith}
+-- Die is Crash. What it has in flight stays so, of an earlier mount; or it goes with it, and then each of these writes fades.
+use Rattle.std.proofs.Common.{◌≡◌, ◌≢◌, ◌⊎◌, ℕ, ◌≤◌, ◌==◌, Bool, true, false, ◌&&◌, ◌||◌, if◌then◌else◌, IsTrue, [], ◌∷◌, Some, None, nat_eq, refl, sym, ap, ◌∙◌, subst, inl, inr, ⊎_elim, arith, List, map, Option}
 use Rattle.std.proofs.lemmas.Bool.{false≢true, cases_eq}
 use Rattle.std.proofs.lemmas.Bool.Decides.{nat_tests}
 use Rattle.std.specs.List.{Contains}
 use Rattle.frang_base.specs.Functions.{put}
-use Rattle.frang_base.proofs.Basics.{at_put, by_test, put_other}
+use Rattle.frang_base.proofs.Basics.{at_put, by_test, put_other, put_same}
 use Rattle.frang_base.specs.declared.lock.LockId.{LockId}
 use Rattle.sector_bytes.specs.Blocks.{Block}
 use Rattle.sector_bytes.specs.SectorMaps.{value_at}
@@ -13,8 +13,9 @@ use Rattle.ring_definitions.specs.Rings.{Ring}
 use Rattle.core_definitions.specs.Events.{Nothing}
 use Rattle.core_definitions.specs.Events as core_events
 use Rattle.core_definitions.specs.Runs.{State as RunMoment, next}
+use Rattle.disk_definitions.proofs.Listed.{Among}
 use Rattle.core_definitions.specs.Flights as core
-use Rattle.core_definitions.specs.Flights.{Flights, InPlace, left_behind}
+use Rattle.core_definitions.specs.Flights.{Flights, left_behind, lost}
 use Rattle.core_definitions.specs.Recoveries.{Recovery}
 use Rattle.core_definitions.specs.Rings.{is_all_reached}
 use Rattle.core_definitions.specs.Scripts.{host_party}
@@ -30,7 +31,9 @@ use Rattle.sector_world.specs.Steps.{after, rescue_left, stays, goes}
 use Rattle.sector_world.specs.Steps.Event.{Crash}
 use Rattle.sector_world.proofs.Crashing.{left_is}
 use Rattle.core_world.specs.Events.{DeathsAreEvents, LeadsQuietly}
-use Rattle.core_world.specs.Journals.{AreJournals, AreSent, IsJournal, IsLogOf, IsSent, Journal, SectorLog, sector_log}
+use Rattle.core_world.specs.Journals.{AreJournals, AreReadings, AreSent, IsJournal, IsLogOf, IsSent, Journal, SectorLog, sector_log}
+use Rattle.core_world.specs.Steps.{IsWorldOf}
+use Rattle.core_world.proofs.Fading.{Fades, FadesAll, HasNone, all_fade, from_lost, into_lost, lost_left, own, own_bytes}
 use Rattle.core_world.specs.Ties.{AreTied, AreLives, AreCached, AreFlying, AreRescues, AreLogged, AreMarked, IsCachedAs, IsMarkedAs, IsFlying, IsShown, IsRescueOf, IsStuck, is_working, is_log_sector, phase_of, expiry_at}
 
 -- what a write is after its server's death
@@ -41,10 +44,10 @@ no_lock : (v : Bool) (k : LockId) → IsCachedAs v k None Absent NoPage
 no_lock true k = refl
 no_lock false k = (refl, inl refl)
 
-module _ (c : Core) (disk : Sectors) (w : World) (a : ℕ) (fate : Fate) (t : AreTied c disk w) (server : IsTrue (is_server a)) (doomed : (c.servers a).phase ≡ life.Doomed fate) (loses : fate.loses ≡ false) where
-  pub die_guard : w.phase a ≡ Up
-  die_guard = t.lives.phase a ∙ ap phase_of doomed
+pub die_guard : (c : Core) (disk : Sectors) (w : World) (a : ℕ) (fate : Fate) → AreTied c disk w → (c.servers a).phase ≡ life.Doomed fate → w.phase a ≡ Up
+die_guard c disk w a fate t doomed = t.lives.phase a ∙ ap phase_of doomed
 
+module _ (c : Core) (disk : Sectors) (w : World) (a : ℕ) (fate : Fate) (t : AreTied c disk w) (server : IsTrue (is_server a)) where
   abbrev new : Server
   new = died_with fate (c.servers a)
 
@@ -173,17 +176,82 @@ module _ (c : Core) (disk : Sectors) (w : World) (a : ℕ) (fate : Fate) (t : Ar
   logged b = at_put (λ x. IsTrue (is_all_reached x.ring) → w.last b ≤ w.acked b) c.servers a new b
       (λ e i. t.logged b (subst (λ n. IsTrue (is_all_reached (c.servers n).ring)) (sym e) i)) (λ n. t.logged b)
 
-  pub die_keeps : AreTied (died_in c a (life.Doomed fate)) disk (after w (Crash a))
+  -- what it has in flight stays, of an earlier mount
+  pub die_keeps : AreTied (record c { servers = fallen_servers; flights = left_behind a c.flights }) disk (after w (Crash a))
   die_keeps = record {
     lives = lives;
     locks = t.locks;
     cached = cached;
     marked = marked;
-    flying = λ e. subst (λ b. AreFlying c.setting.segments c.now (if b then core.lost a c.flights else left_behind a c.flights) (after w (Crash a))) (sym loses) (flying (t.flying e));
+    flying = λ e. flying (t.flying e);
     disk = t.disk;
     rescues = rescues;
     logged = logged;
   }
+
+-- ---- what is in flight goes with it
+
+-- the writes of the others
+fewer_flying : (segments now a : ℕ) (flights : Flights) (w u : World) → Fades a w u → ((one : ℕ × core.Flight) → Among one flights → HasNone own a u.flight one.1.sector) →
+    ((one : ℕ × core.Flight) → Among one flights → HasNone own_bytes a u.byte_flight one.1.sector) → AreFlying segments now flights w →
+    AreFlying segments now (lost a flights) (record w { flight = u.flight; byte_flight = u.byte_flight })
+fewer_flying segments now a flights w u fades none none_bytes t = record {
+  flight = λ s f e. kept s f.by f.behalf f.stamp f.block (λ one i at by. none one i f (ap u.flight at ∙ e) by) (t.flight s f (there (w.flight s) (u.flight s) f e (fades.flights s)));
+  bytes = λ s f e. kept s f.by f.by f.stamp f.block (λ one i at by. none_bytes one i f (ap u.byte_flight at ∙ e) by) (t.bytes s f (there (w.byte_flight s) (u.byte_flight s) f e (fades.bytes s)));
+  shown = λ one i early out. let r = from_lost a flights one (contains_in (lost a flights) one i) in
+      shows one r.1 (has_version w one.1.sector) (t.shown one (in_contains flights one r.0) early out);
+}
+  where
+    there : {X : Type 0} {P : Type 0} (old new : Option X) (f : X) → new ≡ Some f → (new ≡ old) ⊎ ((new ≡ None) × P) → old ≡ Some f
+    there old new f e (inl q) = sym q ∙ e
+    there old new f e (inr q) = absurd (cc (q.0, e))
+
+    kept : (s by behalf stamp : ℕ) (block : Block) → ((one : ℕ × core.Flight) → Among one flights → one.1.sector ≡ s → by ≡ a → ⊥) → IsFlying flights s (cover w s) by behalf stamp block →
+        IsFlying (lost a flights) s (cover w s) by behalf stamp block
+    kept s by behalf stamp block gone x = record {
+      one = x.one;
+      among = in_contains (lost a flights) x.one (into_lost a flights x.one (contains_in flights x.one x.among) (differs x.one.1.server (λ e. gone x.one (contains_in flights x.one x.among) x.sector (sym x.server ∙ e))));
+      sector = x.sector;
+      server = x.server;
+      behalf_is = x.behalf_is;
+      stamp_is = x.stamp_is;
+      block_is = x.block_is;
+      place = x.place;
+    }
+      where
+        differs : (n : ℕ) → (n ≡ a → ⊥) → (n == a) ≡ false
+        differs n m = grind (arith, nat_tests, m)
+
+    stays_so : {X : Type 0} (by : X → ℕ) (old new : Option X) (f : X) → (by f ≡ a → ⊥) → old ≡ Some f → (new ≡ old) ⊎ ((new ≡ None) × ((g : X) → old ≡ Some g → by g ≡ a)) → new ≡ Some f
+    stays_so by old new f other e (inl q) = q ∙ e
+    stays_so by old new f other e (inr q) = absurd (other (q.1 f e))
+
+    shows : (one : ℕ × core.Flight) → (one.1.server == a) ≡ false → (v : Bool) → IsShown v one.1 (w.flight one.1.sector) (w.byte_flight one.1.sector) → IsShown v one.1 (u.flight one.1.sector) (u.byte_flight one.1.sector)
+    shows one e true x = stays_so own (w.flight one.1.sector) (u.flight one.1.sector) (record { by = one.1.server; behalf = one.1.behalf; stamp = one.1.stamp; block = one.1.block }) (other one.1.server e) x (fades.flights one.1.sector)
+      where
+        other : (n : ℕ) → (n == a) ≡ false → n ≡ a → ⊥
+        other n i j = grind (arith, nat_tests, i, j)
+    shows one e false x = stays_so own_bytes (w.byte_flight one.1.sector) (u.byte_flight one.1.sector) (record { by = one.1.server; stamp = one.1.stamp; block = one.1.block }) (other one.1.server e) x (fades.bytes one.1.sector)
+      where
+        other : (n : ℕ) → (n == a) ≡ false → n ≡ a → ⊥
+        other n i j = grind (arith, nat_tests, i, j)
+
+-- the sectors of what is in flight
+abbrev sectors_of_flights : Flights → List ℕ
+sectors_of_flights flights = map (λ one. one.1.sector) flights
+
+faded_keeps : (c : Core) (disk : Sectors) (w : World) (a : ℕ) → AreTied c disk w → (x : FadesAll a (sectors_of_flights c.flights) w) → AreTied (record c { flights = lost a c.flights }) disk x.world
+faded_keeps c disk w a t x = subst (λ v. AreTied (record c { flights = lost a c.flights }) disk v) (sym x.fades.same) (record {
+  lives = t.lives;
+  locks = t.locks;
+  cached = t.cached;
+  marked = t.marked;
+  flying = λ e. fewer_flying c.setting.segments c.now a c.flights w x.world x.fades (λ one i. x.none one.1.sector (into_map (λ (o : ℕ × core.Flight). o.1.sector) c.flights one i))
+      (λ one i. x.none_bytes one.1.sector (into_map (λ (o : ℕ × core.Flight). o.1.sector) c.flights one i)) (t.flying e);
+  disk = t.disk;
+  rescues = t.rescues;
+  logged = t.logged;
+})
 
 -- a write of a log left behind is on its way
 sent_behind : (j : Journal) (now a b : ℕ) (flights : Flights) → AreSent j now flights b → AreSent j now (left_behind a flights) b
@@ -229,6 +297,30 @@ fallen_journal fate ring now flights disk log a j g = record {
   records = g.records;
 }
 
+-- and with fewer writes
+fewer_journal : (phase : life.Phase) (ring : Ring) (now a : ℕ) (flights : Flights) (disk : Sectors) (log : SectorLog) (b : ℕ) (j : Journal) → IsJournal phase ring now flights disk log b j →
+    IsJournal phase ring now (lost a flights) disk log b j
+fewer_journal phase ring now a flights disk log b j g = record {
+  good = g.good;
+  ring_is = g.ring_is;
+  slots = g.slots;
+  counted = g.counted;
+  sent = λ one number i. g.sent one number (in_contains flights one (from_lost a flights one (contains_in (lost a flights) one i)).0);
+  records = g.records;
+}
+
+fewer_log : (phase : life.Phase) (ring : Ring) (now a : ℕ) (flights : Flights) (disk : Sectors) (log : SectorLog) (b : ℕ) (j : Journal) → IsLogOf phase ring now flights disk log b j →
+    IsLogOf phase ring now (lost a flights) disk log b j
+fewer_log life.Off ring now a flights disk log b j g = g
+fewer_log life.Up ring now a flights disk log b j g = fewer_journal life.Up ring now a flights disk log b j g
+fewer_log life.Still ring now a flights disk log b j g = fewer_journal life.Still ring now a flights disk log b j g
+fewer_log (life.Doomed fate) ring now a flights disk log b j g = fewer_journal (life.Doomed fate) ring now a flights disk log b j g
+fewer_log life.Dead ring now a flights disk log b j g = fewer_journal life.Dead ring now a flights disk log b j g
+
+fewer_journals : (servers : ℕ → Server) (now a : ℕ) (flights : Flights) (disk : Sectors) (w : World) (journal : ℕ → Journal) → AreJournals servers now flights disk w journal →
+    AreJournals servers now (lost a flights) disk w journal
+fewer_journals servers now a flights disk w journal j b who = fewer_log (servers b).phase (servers b).ring now a flights disk (sector_log w b) b (journal b) (j b who)
+
 module _ (c : Core) (disk : Sectors) (w : World) (a : ℕ) (fate : Fate) (doomed : (c.servers a).phase ≡ life.Doomed fate) (journal : ℕ → Journal)
     (j : AreJournals c.servers c.now c.flights disk w journal) where
   pub die_journals : AreJournals (put c.servers a (died_with fate (c.servers a))) c.now (left_behind a c.flights) disk w journal
@@ -244,8 +336,69 @@ module _ (c : Core) (disk : Sectors) (w : World) (a : ℕ) (fate : Fate) (doomed
 put_other_recovery : (c : Core) (a : ℕ) (fate : Fate) (by : ℕ) → by ≢ a → (put c.servers a (died_with fate (c.servers a)) by).recovery ≡ (c.servers by).recovery
 put_other_recovery c a fate by n = ap (λ x. x.recovery) (put_other c.servers a (died_with fate (c.servers a)) by n)
 
+module _ (s : RunMoment) (w : World) (journal : ℕ → Journal) (a : ℕ) (fate : Fate) (t : IsWorldOf s w journal) (doomed : (s.core.servers a).phase ≡ life.Doomed fate) (server : IsTrue (is_server a)) where
+  abbrev servers_left : ℕ → Server
+  servers_left = put s.core.servers a (died_with fate (s.core.servers a))
+
+  abbrev crashed : World
+  crashed = after w (Crash a)
+
+  -- the moment, with these writes in flight
+  abbrev left_with : Flights → RunMoment
+  left_with flights = record (next s (core_events.Die a) Nothing) { core = record s.core { servers = servers_left; flights = flights } }
+
+  crash : w.phase a ≡ Up
+  crash = die_guard s.core s.disk w a fate t.tied doomed
+
+  readings_left : AreReadings s.core.setting.segments servers_left crashed
+  readings_left by recovery who e = let q = works s.core s.disk w a fate t.tied server by who in t.readings by recovery q.1 (sym (put_other_recovery s.core a fate by q.0) ∙ e)
+
+  journals_left : AreJournals servers_left s.core.now (left_behind a s.core.flights) s.disk w journal
+  journals_left = die_journals s.core s.disk w a fate doomed journal t.journals
+
+  -- what it has in flight stays
+  pub stays_behind : LeadsQuietly w (left_with (left_behind a s.core.flights))
+  stays_behind = record {
+    leads = record {
+      events = Crash a ∷ [];
+      world = crashed;
+      run = goes crash stays;
+      journal = journal;
+      is = record { tied = die_keeps s.core s.disk w a fate t.tied server; journals = journals_left; readings = readings_left };
+    };
+    story = record { servers = refl; opening = refl; logged = refl; first = refl; home = refl; history = refl };
+  }
+
+  -- or it fades
+  pub goes_with : LeadsQuietly w (left_with (lost a s.core.flights))
+  goes_with = subst (λ flights. LeadsQuietly w (left_with flights)) (lost_left a s.core.flights) (record {
+    leads = record {
+      events = Crash a ∷ x.events;
+      world = x.world;
+      run = goes crash x.run;
+      journal = journal;
+      is = record {
+        tied = faded_keeps (record s.core { servers = servers_left; flights = left_behind a s.core.flights }) s.disk crashed a (die_keeps s.core s.disk w a fate t.tied server) x;
+        journals = subst (λ v. AreJournals servers_left s.core.now (lost a (left_behind a s.core.flights)) s.disk v journal) (sym x.fades.same)
+            (fewer_journals servers_left s.core.now a (left_behind a s.core.flights) s.disk w journal journals_left);
+        readings = subst (λ v. AreReadings s.core.setting.segments servers_left v) (sym x.fades.same) readings_left;
+      };
+    };
+    story = record {
+      servers = ap (λ v. v.servers) x.fades.same;
+      opening = ap (λ v. v.opening) x.fades.same;
+      logged = ap (λ v. v.logged) x.fades.same;
+      first = ap (λ v. v.first) x.fades.same;
+      home = ap (λ v. v.home) x.fades.same;
+      history = ap (λ v. v.history) x.fades.same;
+    };
+  })
+    where
+      x : FadesAll a (sectors_of_flights (left_behind a s.core.flights)) crashed
+      x = all_fade a (sectors_of_flights (left_behind a s.core.flights)) crashed (put_same w.phase a Dead)
+
 pub deaths : DeathsAreEvents
-deaths s w journal a fate r t doomed stay makes = subst (λ p. LeadsQuietly w (fallen p)) (sym doomed) leads
+deaths s w journal a fate r t doomed makes = subst (λ p. LeadsQuietly w (fallen p)) (sym doomed) (go fate.loses refl)
   where
     fallen : life.Phase → RunMoment
     fallen p = record (next s (core_events.Die a) Nothing) { core = died_in s.core a p }
@@ -253,20 +406,6 @@ deaths s w journal a fate r t doomed stay makes = subst (λ p. LeadsQuietly w (f
     server : IsTrue (is_server a)
     server = makes.can.can.server
 
-    leads : LeadsQuietly w (fallen (life.Doomed fate))
-    leads = record {
-      leads = record {
-        events = Crash a ∷ [];
-        world = after w (Crash a);
-        run = goes (die_guard s.core s.disk w a fate t.tied server doomed stay) stays;
-        journal = journal;
-        is = record {
-          tied = die_keeps s.core s.disk w a fate t.tied server doomed stay;
-          journals = subst (λ b. AreJournals (put s.core.servers a (died_with fate (s.core.servers a))) s.core.now (if b then core.lost a s.core.flights else left_behind a s.core.flights) s.disk (after w (Crash a)) journal)
-              (sym stay) (die_journals s.core s.disk w a fate doomed journal t.journals);
-          readings = λ by recovery who e. let q = works s.core s.disk w a fate t.tied server doomed stay by who in
-              t.readings by recovery q.1 (sym (put_other_recovery s.core a fate by q.0) ∙ e);
-        };
-      };
-      story = record { servers = refl; opening = refl; logged = refl; first = refl; home = refl; history = refl };
-    }
+    go : (loses : Bool) → fate.loses ≡ loses → LeadsQuietly w (left_with s w journal a fate t doomed server (if fate.loses then lost a s.core.flights else left_behind a s.core.flights))
+    go true e = subst (λ b. LeadsQuietly w (left_with s w journal a fate t doomed server (if b then lost a s.core.flights else left_behind a s.core.flights))) (sym e) (goes_with s w journal a fate t doomed server)
+    go false e = subst (λ b. LeadsQuietly w (left_with s w journal a fate t doomed server (if b then lost a s.core.flights else left_behind a s.core.flights))) (sym e) (stays_behind s w journal a fate t doomed server)

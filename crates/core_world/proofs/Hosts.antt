@@ -1,9 +1,7 @@
 -- The host is never mounted, as the transcripts of the core's runs keep it.
-use Rattle.std.proofs.Common.{◌≡◌, ℕ, List, Ok, IsTrue, refl}
-use Rattle.frang_base.specs.declared.script.Line.{Line}
-use Rattle.script_definitions.specs.ScriptText.{script_of}
+use Rattle.std.proofs.Common.{◌≡◌, IsTrue, refl}
 use Rattle.tree_definitions.specs.History.{fresh_opening}
-use Rattle.core_definitions.specs.Runs.{State as RunMoment, first_state}
+use Rattle.core_definitions.specs.Runs.{first_state}
 use Rattle.core_definitions.specs.Servers as life
 use Rattle.core_definitions.specs.Settings.{Setting, setting_of}
 use Rattle.core_laws.specs.Facts.{OffHasNoFlights}

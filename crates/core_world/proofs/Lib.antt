@@ -4,6 +4,7 @@ pub mod Cached
 pub mod Giving
 pub mod Living
 pub mod Asking
+pub mod Fading
 pub mod Dying
 pub mod First
 pub mod Hosts

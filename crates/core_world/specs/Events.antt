@@ -1,6 +1,6 @@
 -- The first moment, and what Renew, Tick, Ask, Give and Die are in the theorem on sectors. What an event rests on beside the ties is a premise here: of the core alone, to
 -- be shown of every run.
-use Rattle.std.specs.Prelude.{◌≡◌, ◌≤◌, ◌<◌, ℕ, Bool, true, false}
+use Rattle.std.specs.Prelude.{◌≡◌, ◌≤◌, ◌<◌, ℕ, Bool, true}
 use Rattle.std.specs.List.{Contains}
 use Rattle.frang_base.specs.declared.limits.TheConstants.{LOG_SECTORS, SECTOR_BYTES, SERVERS}
 use Rattle.frang_base.specs.declared.lock.LockId.{LockId}
@@ -57,6 +57,7 @@ pub record LeadsQuietly (w : World) (v : RunMoment) : Type 0 where
   pub leads : Leads w v
   pub story : IsSameStory w leads.world
 
+-- a Renew leads quietly on
 abbrev pub RenewsAreEvents : Type 0
 RenewsAreEvents =
     (s : RunMoment) (w : World) (journal : ℕ → Journal) (a : ℕ) → IsReached s → IsWorldOf s w journal → Makes s (Renew a) Nothing → LeadsQuietly w (next s (Renew a) Nothing)
@@ -65,10 +66,12 @@ RenewsAreEvents =
 abbrev pub HostsAreOff : Type 0
 HostsAreOff = (s : RunMoment) → IsReached s → (s.core.servers host_party).phase ≡ Off
 
+-- so does a Tick
 abbrev pub TicksAreEvents : Type 0
 TicksAreEvents =
     (s : RunMoment) (w : World) (journal : ℕ → Journal) → IsReached s → IsWorldOf s w journal → Makes s Tick Nothing → LeadsQuietly w (next s Tick Nothing)
 
+-- an Ask, whether the lock is granted or the wish is noted
 abbrev pub AsksAreEvents : Type 0
 AsksAreEvents =
     (s : RunMoment) (w : World) (journal : ℕ → Journal) (a : ℕ) (lock : LockId) (mode : Mode) → IsReached s → IsWorldOf s w journal → Makes s (Ask a lock mode) Nothing →
@@ -78,13 +81,14 @@ AsksAreEvents =
 abbrev pub OwnAreFresh : Core → ℕ → Type 0
 OwnAreFresh c a = (one : ℕ × Flight) → Contains c.flights one → one.1.server ≡ a → c.now ≤ one.1.stamp → one.1.present ≡ true
 
+-- a Give
 abbrev pub GivesAreEvents : Type 0
 GivesAreEvents =
     (s : RunMoment) (w : World) (journal : ℕ → Journal) (a : ℕ) (lock : LockId) → IsReached s → IsWorldOf s w journal → Good w → OwnAreFresh s.core a →
     Makes s (Give a lock) Nothing → LeadsQuietly w (next s (Give a lock) Nothing)
 
--- where nothing in flight goes with the server
+-- a Die, whether what is in flight goes with the server or not
 abbrev pub DeathsAreEvents : Type 0
 DeathsAreEvents =
-    (s : RunMoment) (w : World) (journal : ℕ → Journal) (a : ℕ) (fate : Fate) → IsReached s → IsWorldOf s w journal → (s.core.servers a).phase ≡ Doomed fate → fate.loses ≡ false →
+    (s : RunMoment) (w : World) (journal : ℕ → Journal) (a : ℕ) (fate : Fate) → IsReached s → IsWorldOf s w journal → (s.core.servers a).phase ≡ Doomed fate →
     Makes s (Die a) Nothing → LeadsQuietly w (next s (Die a) Nothing)

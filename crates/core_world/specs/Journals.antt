@@ -98,6 +98,7 @@ IsSent flying number block = (x : LogSector) × Contains flying x × (x.seq ≡ 
 abbrev pub is_above : ℕ → Placed → Bool
 is_above floor p = not (nat_le p.redo.op.0 floor)
 
+-- their records
 abbrev pub records_above : ℕ → List Placed → List Redo
 records_above floor placed = map (λ p. p.redo) (filter (is_above floor) placed)
 
@@ -140,6 +141,7 @@ IsAtRest slots log = record {
 
 -- ---- of all servers
 
+-- that of a server, by its phase
 abbrev pub IsLogOf : life.Phase → Ring → ℕ → core.Flights → Sectors → SectorLog → ℕ → Journal → Type 0
 IsLogOf life.Off ring now flights disk log a j = IsAtRest (slots_of disk a) log
 IsLogOf phase ring now flights disk log a j = IsJournal phase ring now flights disk log a j

@@ -28,6 +28,7 @@ abbrev pub keep_changing : List Change → Redo → List Redo → List Redo
 keep_changing [] r rs = rs
 keep_changing (x ∷ xs) r rs = r ∷ rs
 
+-- of a list
 abbrev pub changing : List Redo → List Redo
 changing [] = []
 changing (r ∷ rs) = keep_changing r.changes r (changing rs)

@@ -11,8 +11,7 @@ use Rattle.sector_bytes.specs.Blocks.{Block}
 use Rattle.sector_bytes.specs.SectorMaps.{value_at}
 use Rattle.sector_bytes.specs.Sectors.{Sectors}
 use Rattle.disk_definitions.specs.Regions.{region_of}
-use Rattle.disk_definitions.specs.declared.region.Region.{Region}
-use Rattle.disk_definitions.specs.declared.region.Region.TheVariants as region
+use Rattle.disk_definitions.specs.Replay.{is_log}
 use Rattle.cache_definitions.specs.declared.dirt.Dirt.{Dirt}
 use Rattle.cache_definitions.specs.Caches.{CachedSector}
 use Rattle.core_definitions.specs.Flights as core
@@ -27,6 +26,7 @@ use Rattle.sector_world.specs.World.{World, Phase, Off, Up, Dead, Slot, Absent, 
 
 -- ---- lives and leases
 
+-- a stalled server and a doomed one are mounted
 abbrev pub phase_of : life.Phase → Phase
 phase_of life.Off = Off
 phase_of life.Up = Up
@@ -38,6 +38,7 @@ phase_of life.Dead = Dead
 abbrev pub expiry_at : ℕ → ℕ → ℕ → ℕ
 expiry_at now a expiry = if a == host_party then now + LEASE_TICKS else expiry
 
+-- the clock, and of each server its phase, its lease, and that it is well where no call of it failed
 abbrev pub AreLives : ℕ → (ℕ → Server) → World → Type 0
 AreLives time servers w = record {
   now : w.now ≡ time;
@@ -48,13 +49,16 @@ AreLives time servers w = record {
 
 -- ---- locks
 
+-- until when a log is held
 abbrev pub until_of : Option LogHold → ℕ
 until_of None = 0
 until_of (Some hold) = hold.expiry
 
+-- who has taken it
 abbrev pub taker_of : Option LogHold → Option ℕ
 taker_of hold = option_map (λ h. h.by.0) hold
 
+-- who holds what, who has taken which log, and until when
 abbrev pub AreHeld : Locks → World → Type 0
 AreHeld locks w = record {
   holds : (a : ℕ) (l : LockId) → w.holds a l ≡ held locks a l;
@@ -85,6 +89,7 @@ IsCachedAs true lock (Some kept) slot page = (kept.cover ≡ lock) × IsSlotOf k
 IsCachedAs false lock None slot page = (slot ≡ Absent) × IsNoPage page
 IsCachedAs false lock (Some kept) slot page = (kept.cover ≡ lock) × (slot ≡ Absent) × IsPageOf kept.dirt kept.block page
 
+-- at each server and sector
 abbrev pub AreCached : (ℕ → Server) → World → Type 0
 AreCached servers w = (a s : ℕ) → IsCachedAs (has_version w s) (cover w s) (value_at (servers a).cache s) (w.slot a s) (w.page a s)
 
@@ -94,22 +99,27 @@ AreCached servers w = (a s : ℕ) → IsCachedAs (has_version w s) (cover w s) (
 abbrev pub IsMark : (reached acked mark m : ℕ) → Type 0
 IsMark reached acked mark m = (mark ≤ reached) ↔ (m ≤ acked)
 
+-- of a dirty slot
 abbrev pub IsSlotMark : (reached acked mark : ℕ) → Slot → Type 0
 IsSlotMark reached acked mark (Dirty block m) = IsMark reached acked mark m
 IsSlotMark reached acked mark slot = Unit {0}
 
+-- of a dirty page
 abbrev pub IsPageMark : (reached acked mark : ℕ) → Page → Type 0
 IsPageMark reached acked mark (DirtyPage block m) = IsMark reached acked mark m
 IsPageMark reached acked mark page = Unit {0}
 
+-- of what is dirty in the core
 abbrev pub IsDirtAs : (reached acked : ℕ) → Option Dirt → Slot → Page → Type 0
 IsDirtAs reached acked None slot page = Unit {0}
 IsDirtAs reached acked (Some dirt) slot page = IsSlotMark reached acked dirt.mark slot × IsPageMark reached acked dirt.mark page
 
+-- of what is cached there
 abbrev pub IsMarkedAs : (reached acked : ℕ) → Option CachedSector → Slot → Page → Type 0
 IsMarkedAs reached acked None slot page = Unit {0}
 IsMarkedAs reached acked (Some kept) slot page = IsDirtAs reached acked kept.dirt slot page
 
+-- at each server and sector, by how far the log is acknowledged on either side
 abbrev pub AreMarked : (ℕ → Server) → World → Type 0
 AreMarked servers w = (a s : ℕ) → IsMarkedAs (servers a).ring.reached (w.acked a) (value_at (servers a).cache s) (w.slot a s) (w.page a s)
 
@@ -131,12 +141,9 @@ abbrev pub IsShown : Bool → core.Flight → Option Flight → Option ByteFligh
 IsShown true one flight byte_flight = flight ≡ Some (record { by = one.server; behalf = one.behalf; stamp = one.stamp; block = one.block })
 IsShown false one flight byte_flight = byte_flight ≡ Some (record { by = one.server; stamp = one.stamp; block = one.block })
 
-abbrev pub is_of_log : Option Region → Bool
-is_of_log (Some (region.Log server slot)) = true
-is_of_log _ = false
-
+-- the sector is in a log
 abbrev pub is_log_sector : ℕ → ℕ → Bool
-is_log_sector segments s = is_of_log (region_of segments s)
+is_log_sector segments s = is_log (region_of segments s)
 
 -- each write of the world is one of the core, and each of the core that may still come in time and isn't of a log is the world's
 abbrev pub AreFlying : ℕ → ℕ → core.Flights → World → Type 0
@@ -149,6 +156,7 @@ AreFlying segments now flights w = record {
 
 -- ---- the disk
 
+-- the side that counts of each sector that is in no log is the disk's
 abbrev pub IsOnDisk : ℕ → Sectors → World → Type 0
 IsOnDisk segments disk w = (s : ℕ) → is_log_sector segments s ≡ false → block_at w s ≡ disk s
 
@@ -159,11 +167,13 @@ abbrev pub IsToldOnce : Bool → Block → Told → Type 0
 IsToldOnce true block told = told ≡ InPlace
 IsToldOnce false block told = told ≡ Wanted block
 
+-- what a recovery has found of a sector: not looked at yet, nothing to write, or a block to write
 abbrev pub IsTold : Recovery → ℕ → Option (Option Block) → Told → Type 0
 IsTold recovery s None told = told ≡ Unread
 IsTold recovery s (Some None) told = told ≡ InPlace
 IsTold recovery s (Some (Some block)) told = IsToldOnce (is_written recovery s) block told
 
+-- the recovery of the world is this one of this server
 pub record IsRescueOf (by : ℕ) (recovery : Recovery) (rescue : Option Rescue) : Type 0 where
   pub r : Rescue
   pub is : rescue ≡ Some r
@@ -192,6 +202,7 @@ AreRescues servers w = record {
 
 -- ---- logs, as far as locks ask of them: where all is acknowledged, so are all operations
 
+-- of each server
 abbrev pub AreLogged : (ℕ → Server) → World → Type 0
 AreLogged servers w = (a : ℕ) → IsTrue (is_all_reached (servers a).ring) → w.last a ≤ w.acked a
 

@@ -38,7 +38,7 @@ pub fn gives_are_events()
     ensures give { GivesAreEvents }
 {}
 
-/// A death with which nothing goes that is in flight is Crash.
+/// A death is Crash, and where what is in flight goes with the server, Fade of each of its writes.
 pub fn deaths_are_events()
     ensures die { DeathsAreEvents }
 {}

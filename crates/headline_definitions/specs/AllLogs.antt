@@ -14,6 +14,7 @@ use Rattle.disk_definitions.specs.Logs.{Slots, greatest_operation, log_records}
 use Rattle.disk_definitions.specs.Regions.{region_of}
 use Rattle.disk_definitions.specs.Replay.{is_log, slots_of, with_change}
 
+-- how many logs there are, and how the records of one are read off its slots
 pub record AllLogs : Type 0 where
   pub count : ℕ
   pub records : Slots → List Redo

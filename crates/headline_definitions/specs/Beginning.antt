@@ -14,6 +14,7 @@ use Rattle.disk_definitions.specs.Standing.{HasVersionsUpTo, StandsFor}
 use Rattle.disk_definitions.specs.Store.{store_of}
 use Rattle.headline_definitions.specs.AllLogs.{AllLogs}
 
+-- the logs are said by how they are read
 pub record Beginning : Type 0 where
   pub script : List Line
   pub opening : Opening

@@ -48,6 +48,7 @@ say_greatest b witnessed = all_say_greatest b.logs (λ server. b.disk) b.disk wi
 
 -- ---- the headline
 
+-- its five parts
 pub record Headline (b : Beginning) (faults : Faults) (witnessed : List Witnessed) : Type 0 where
   -- the lines said are a well-formed transcript, the lines of the tree included
   pub lines : IsTranscript b.script b.opening faults (saids_in witnessed)

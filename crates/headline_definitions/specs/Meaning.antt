@@ -11,6 +11,7 @@ use Rattle.headline_definitions.specs.Witnessed.{disk_behind, saids_in}
 abbrev pub GreatestIsTheDisks : Type 0
 GreatestIsTheDisks = (disk : Sectors) (server : ℕ) → greatest_at disk_logs disk server ≡ greatest_of disk server
 
+-- so is the replayed disk
 abbrev pub ReplayedIsTheDisks : Type 0
 ReplayedIsTheDisks = (disk : Sectors) (sector : ℕ) → replayed_by disk_logs disk sector ≡ replayed disk sector
 

@@ -33,6 +33,7 @@ abbrev pub is_small : Option Region → Bool
 is_small (Some (region.Small block part)) = true
 is_small _ = false
 
+-- it is known to be one, or it is one from this disk on
 abbrev pub is_metadata_by : AllLogs → (segments : ℕ) → (ℕ → Bool) → Sectors → ℕ → Bool
 is_metadata_by logs segments known disk sector = known sector || (is_small (region_of segments sector) && is_named logs disk sector)
 
@@ -44,16 +45,19 @@ pub record Watch : Type 0 where
   pub barred : ℕ → Bool
   pub metadata : ℕ → Bool
 
+-- after a line: barred from the beginning of its recovery to its next mount
 abbrev pub barred_after : (ℕ → Bool) → Said → ℕ → Bool
 barred_after barred (said.Recovering s by) server = barred server || s.0 == server
 barred_after barred (said.Answer s number r) server = barred server && not (s.0 == server && is_mounted r)
 barred_after barred _ server = barred server
 
+-- after a line: the last who began, until it is done
 abbrev pub taker_after : (ℕ → Option ℕ) → Said → ℕ → Option ℕ
 taker_after taker (said.Recovering s by) server = if s.0 == server then Some by.0 else taker server
 taker_after taker (said.Recovered s kept) server = if s.0 == server then None else taker server
 taker_after taker _ server = taker server
 
+-- only lines change them
 abbrev pub watched : Watch → Witnessed → Watch
 watched watch (Acted (Says line)) = record watch { taker = taker_after watch.taker line; barred = barred_after watch.barred line }
 watched watch (Acted (Made put taken)) = watch
@@ -61,6 +65,7 @@ watched watch (Broke sector block) = watch
 
 -- ---- one put
 
+-- it is this server
 abbrev pub is_taker : ℕ → Option ℕ → Bool
 is_taker server None = false
 is_taker server (Some taker) = taker == server
@@ -80,6 +85,7 @@ is_put_in_order logs segments watch disk put Written =
     && is_in_own_log put.behalf.0 (region_of segments put.sector.0)
     && not (watch.barred put.server.0)
 
+-- of one that was witnessed: only puts that were written are asked
 abbrev pub is_in_order : AllLogs → (segments : ℕ) → Watch → Sectors → Witnessed → Bool
 is_in_order logs segments watch disk (Acted (Made put taken)) = is_put_in_order logs segments watch disk put taken
 is_in_order logs segments watch disk (Acted (Says line)) = true
@@ -91,12 +97,14 @@ is_in_order logs segments watch disk (Broke sector block) = true
 abbrev pub seen_on : AllLogs → (segments : ℕ) → Watch → Sectors → Watch
 seen_on logs segments watch disk = record watch { metadata = is_metadata_by logs segments watch.metadata disk }
 
+-- each on the disk as those before it leave it
 abbrev pub are_in_order : AllLogs → (segments : ℕ) → Watch → Sectors → List Witnessed → Bool
 are_in_order logs segments watch disk [] = true
 are_in_order logs segments watch disk (one ∷ more) =
     let seen = seen_on logs segments watch disk in
     is_in_order logs segments seen disk one && are_in_order logs segments (watched seen one) (disk_by disk one) more
 
+-- nobody recovers, and nobody is barred
 abbrev pub first_watch : (segments : ℕ) → Sectors → Watch
 first_watch segments disk = record { taker = λ server. None; barred = λ server. false; metadata = λ sector. is_metadata_at_first (store_of segments disk) (region_of segments sector) }
 

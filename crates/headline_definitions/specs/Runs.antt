@@ -20,6 +20,7 @@ abbrev pub witnessed_of_put : ℕ → Flight → Heard → List Witnessed
 witnessed_of_put now flight (PutFailed true) = Broke flight.sector flight.block ∷ []
 witnessed_of_put now flight heard = told (deeds_of_put now flight heard)
 
+-- where there is such a write
 abbrev pub witnessed_of_arrival : ℕ → Heard → Option Flight → List Witnessed
 witnessed_of_arrival now heard None = []
 witnessed_of_arrival now heard (Some flight) = witnessed_of_put now flight heard

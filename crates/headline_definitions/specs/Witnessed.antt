@@ -15,6 +15,7 @@ pub data Witnessed : Type 0 where
   Acted : (deed : Deed) → Witnessed
   Broke : (sector : ℕ) (block : Block) → Witnessed
 
+-- the line, where one was said
 abbrev pub said_in : Witnessed → Option Said
 said_in (Acted deed) = said_by deed
 said_in (Broke sector block) = None

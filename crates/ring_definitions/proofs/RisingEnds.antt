@@ -1,5 +1,5 @@
 -- The end of a log goes no way back where a sector of the ring arrives.
-use Rattle.std.proofs.Common.{◌≡◌, ◌⊎◌, ℕ, ◌+◌, ◌-◌, ◌<◌, ◌≤◌, true, false, is_some, Option, Some, None, List, ◌++◌, refl, sym, ap, ◌∙◌, inl, inr, arith}
+use Rattle.std.proofs.Common.{◌≡◌, ◌⊎◌, ℕ, ◌+◌, ◌-◌, ◌<◌, ◌≤◌, true, false, is_some, Option, Some, None, List, refl, sym, ap, ◌∙◌, inl, inr, arith}
 use Rattle.std.proofs.lemmas.Bool.{cases_eq, false_from_ne_true}
 use Rattle.disk_definitions.specs.declared.log_sector.LogSector.{LogSector}
 use Rattle.disk_definitions.specs.Logs.{Slots, log_end, stands, sector_numbered}
