@@ -1,13 +1,13 @@
 -- The recovery of a dead server's log: what it reads, what it looks at, and what it wants written.
-use Rattle.std.specs.Prelude.{ℕ, ◌+◌, ◌-◌, Bool, true, false, not, ◌&&◌, ◌||◌, if◌then◌else◌, nat_lt, Option, Some, None, is_some, List, [], ◌∷◌, ◌++◌, filter, fold, map}
+use Rattle.std.specs.Prelude.{ℕ, ◌+◌, ◌-◌, Bool, true, false, not, ◌&&◌, ◌||◌, if◌then◌else◌, nat_lt, Option, Some, None, is_some, List, [], ◌∷◌, ◌++◌, filter, map}
 use Rattle.std.specs.List.{filter_map, flat_map, list_all}
 use Rattle.std.specs.Option.{option_map}
 use Rattle.frang_base.specs.Functions.{member}
 use Rattle.frang_base.specs.declared.change.Redo.{Redo}
 use Rattle.disk_definitions.specs.Replay.{is_replayed}
+use Rattle.disk_definitions.specs.ReplayedBlocks.{replayed_block}
 use Rattle.disk_definitions.specs.Written.{ascending}
 use Rattle.sector_bytes.specs.Blocks.{Block, version_of}
-use Rattle.sector_bytes.specs.Replays.{change_at, redone}
 use Rattle.sector_bytes.specs.SectorMaps.{value_at}
 use Rattle.disk_definitions.specs.Regions.{region_of}
 use Rattle.core_definitions.specs.Settings.{LogRules}
@@ -37,10 +37,6 @@ named_sectors segments records =
 abbrev pub to_look : LogRules → ℕ → Recovery → List ℕ
 to_look logs segments recovery =
     if is_read logs recovery.slots then filter (λ sector. not (is_some (value_at recovery.looked sector))) (named_sectors segments (redos logs recovery)) else []
-
--- the block with the changes of all records applied, in order
-abbrev pub replayed_block : List Redo → ℕ → Block → Block
-replayed_block records sector block = fold (λ old redo. redone (change_at redo.changes sector) old) block records
 
 -- where one applied, it is wanted
 abbrev pub wanted_block : List Redo → ℕ → Block → Option Block

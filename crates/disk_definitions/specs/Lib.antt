@@ -13,6 +13,7 @@ pub mod Records
 pub mod Frames
 pub mod Logs
 pub mod Replay
+pub mod ReplayedBlocks
 pub mod Arriving
 pub mod Least
 pub mod Held

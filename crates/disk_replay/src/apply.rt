@@ -55,9 +55,9 @@ fn apply_change(disk: &mut Disk, segments: u32, change: &Change) -> Result<(), N
     }
 }
 
-// Whether a replay changes the sector, on a disk of so many segments.
+/// Whether a replay changes the sector, on a disk of so many segments.
 #[tactic(auto, unfolding(crate::specs::Laid::is_changed))]
-fn is_changed(segments: u32, sector: Sector) -> bool
+pub(crate) fn is_changed(segments: u32, sector: Sector) -> bool
     requires { segments ≤ SEGMENTS_MAX }
     ensures { result ≡ is_changed segments sector.0 }
 {

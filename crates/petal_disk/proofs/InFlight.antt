@@ -18,7 +18,7 @@ use Rattle.petal_disk.specs.declared.ticket.Ticket.{Ticket}
 use Rattle.petal_disk.specs.Flights.{Writes, is_ticket, without, busy_with, ticket_cmp, sectors, AreFlights}
 
 -- nothing in flight
-pub AreFlights-none : (next : ℕ) → AreFlights (record { writes = []; next = next; room = 0 })
+pub AreFlights-none : (next : ℕ) → AreFlights (record { writes = []; flying = []; next = next; room = 0 })
 unfolding IsStrictlySortedBy IsDistinct
 AreFlights-none next = record { ascending = tt; given = All-nil (λ ticket. ticket.0 < next); apart = tt }
 
@@ -49,8 +49,8 @@ not_busy (write ∷ writes) sector free = go (write.1.sector.0 == sector) refl (
     go true is rest = cc (ap (λ b. option_map (λ w. w.0) (if b then Some write else find (λ w. w.1.sector.0 == sector) writes)) (sym is) ∙ free)
     go false is rest = rest (ap (λ b. option_map (λ w. w.0) (if b then Some write else find (λ w. w.1.sector.0 == sector) writes)) (sym is) ∙ free)
 
-pub AreFlights-issued : (writes : Writes) (next : ℕ) (put : Put) → AreFlights (record { writes = writes; next = next; room = 0 }) → busy_with writes put.sector.0 ≡ None
-    → AreFlights (record { writes = writes ++ (record { 0 = next }, put) ∷ []; next = next + 1; room = 0 })
+pub AreFlights-issued : (writes : Writes) (next : ℕ) (put : Put) → AreFlights (record { writes = writes; flying = []; next = next; room = 0 }) → busy_with writes put.sector.0 ≡ None
+    → AreFlights (record { writes = writes ++ (record { 0 = next }, put) ∷ []; flying = []; next = next + 1; room = 0 })
 AreFlights-issued writes next put are free = record {
   ascending = subst (IsStrictlySortedBy ticket_cmp) (sym (map-append (λ w. w.0) writes _)) (sorted_push (keys_of writes) (record { 0 = next }) are.ascending are.given);
   given = subst (All (λ t. t.0 < next + 1)) (sym (map-append (λ w. w.0) writes _)) (All-push (λ t. t.0 < next + 1) (keys_of writes) (record { 0 = next }) (All-weaker (λ t. t.0 < next) (λ t. t.0 < next + 1) (λ t below. omega arith) (keys_of writes) are.given) (omega arith));
@@ -80,7 +80,7 @@ module _ (t : ℕ) where
       go true rest = apart.1
       go false rest = (all_left (λ s. (write.1.sector.0 == s) ≡ false) writes apart.0, rest)
 
-  pub AreFlights-without : (writes : Writes) (next : ℕ) → AreFlights (record { writes = writes; next = next; room = 0 }) → AreFlights (record { writes = without writes t; next = next; room = 0 })
+  pub AreFlights-without : (writes : Writes) (next : ℕ) → AreFlights (record { writes = writes; flying = []; next = next; room = 0 }) → AreFlights (record { writes = without writes t; flying = []; next = next; room = 0 })
   AreFlights-without writes next are = record {
     ascending = sorted-remove_entry ticket_cmp (is_ticket t) writes are.ascending;
     given = All-map-remove_entry (is_ticket t) (λ w. w.0) (λ ticket. ticket.0 < next) writes are.given;

@@ -1,3 +1,4 @@
+pub mod Changing
 pub mod InFlight
 pub mod Indexing
 pub mod TicketOrder

@@ -24,18 +24,22 @@ same_test a b = grind (arith, nat_tests)
 ticket_test : (t : Ticket) → is_at (ticket_cmp t) ≡ is_ticket t.0
 ticket_test t = λ i. λ ticket. same_test t.0 ticket.0 i
 
-looked_up : (writes : Writes) (t : Ticket) → lookup (is_at (ticket_cmp t)) writes ≡ write_at writes t.0
+looked_up : {V : Type 0} (writes : List (Ticket × V)) (t : Ticket) → lookup (is_at (ticket_cmp t)) writes ≡ write_at writes t.0
 looked_up writes t = ap (λ test. lookup test writes) (ticket_test t)
 
-taken_out : (writes : Writes) (t : Ticket) → remove_entry (is_at (ticket_cmp t)) writes ≡ without writes t.0
+taken_out : {V : Type 0} (writes : List (Ticket × V)) (t : Ticket) → remove_entry (is_at (ticket_cmp t)) writes ≡ without writes t.0
 taken_out writes t = ap (λ test. remove_entry test writes) (ticket_test t)
 
 -- ---- what the boxes hold
 
-module _ {B : Type 0} (held : B → Put) where
+module _ {B V : Type 0} (held : B → V) where
   pub length-opened : (boxes : List (Ticket × B)) → length (opened boxes held) ≡ length boxes
   length-opened [] = refl
   length-opened (box ∷ boxes) = ap suc (length-opened boxes)
+
+  pub keys-opened : (boxes : List (Ticket × B)) → keys_of (opened boxes held) ≡ keys_of boxes
+  keys-opened [] = refl
+  keys-opened (box ∷ boxes) = ap (λ tail. box.0 ∷ tail) (keys-opened boxes)
 
   pub write-opened : (t : Ticket) (boxes : List (Ticket × B)) → write_at (opened boxes held) t.0 ≡ option_map held (lookup (is_at (ticket_cmp t)) boxes)
   write-opened t boxes = sym (looked_up (opened boxes held) t) ∙ lookup-map_values held (is_at (ticket_cmp t)) boxes

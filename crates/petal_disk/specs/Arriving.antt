@@ -1,5 +1,5 @@
 -- What is answered for the issue and for the arrival of a write, and what it leaves.
-use Rattle.std.specs.Prelude.{◌≡◌, ℕ, ◌+◌, Some, None, Result, Ok, Err, [], ◌∷◌, ◌++◌}
+use Rattle.std.specs.Prelude.{◌≡◌, ℕ, ◌+◌, Some, None, Result, Ok, Err, List, [], ◌∷◌, ◌++◌}
 use Rattle.frang_outside.specs.declared.act.Put.{Put}
 use Rattle.frang_outside.specs.declared.act.Taken.TheVariants.{Written as TakenWritten, Late as TakenLate}
 use Rattle.frang_outside.specs.declared.outside.PutFault.TheVariants.{Failed as PutFailed, NoMemory as PutNoMemory}
@@ -9,13 +9,17 @@ use Rattle.petal_disk.specs.declared.ticket.IssueFault.{IssueFault}
 use Rattle.petal_disk.specs.declared.ticket.IssueFault.TheVariants.{Busy, NoMemory as IssueNoMemory}
 use Rattle.petal_disk.specs.declared.ticket.Arrived.{Arrived}
 use Rattle.petal_disk.specs.declared.ticket.Arrived.TheVariants.{Written, Late, Failed, NoMemory}
-use Rattle.petal_disk.specs.Flights.{Writes, Flights, IsSame, without, busy_with}
+use Rattle.petal_disk.specs.declared.flying.Purpose.{Purpose}
+use Rattle.petal_disk.specs.Flights.{Flights, IsSame, without, busy_with}
+use Rattle.petal_disk.specs.Flying.{flying_of}
 
--- a write of a sector that has none in flight gets the next ticket; one of a sector that has is refused by that write's ticket
-abbrev pub IssueOutcome : Flights → Flights → Put → Result Ticket IssueFault → Type 0
-IssueOutcome old new put (Ok ticket) = (busy_with old.writes put.sector.0 ≡ None) × (ticket.0 ≡ old.next) × (new.writes ≡ old.writes ++ (ticket, put) ∷ []) × (new.next ≡ old.next + 1)
-IssueOutcome old new put (Err (Busy ticket)) = (busy_with old.writes put.sector.0 ≡ Some ticket) × IsSame old new
-IssueOutcome old new put (Err IssueNoMemory) = (busy_with old.writes put.sector.0 ≡ None) × IsSame old new
+-- a write of a sector that has none in flight gets the next ticket, and is of this and of the present mount; one of a sector that has is refused by that write's ticket
+abbrev pub IssueOutcome : Flights → Flights → Put → Purpose → Result Ticket IssueFault → Type 0
+IssueOutcome old new put purpose (Ok ticket) =
+    (busy_with old.writes put.sector.0 ≡ None) × (ticket.0 ≡ old.next) × (new.writes ≡ old.writes ++ (ticket, put) ∷ []) × (new.flying ≡ old.flying ++ (ticket, flying_of put purpose) ∷ [])
+    × (new.next ≡ old.next + 1)
+IssueOutcome old new put purpose (Err (Busy ticket)) = (busy_with old.writes put.sector.0 ≡ Some ticket) × IsSame old new
+IssueOutcome old new put purpose (Err IssueNoMemory) = (busy_with old.writes put.sector.0 ≡ None) × IsSame old new
 
 -- the write as it arrives now
 abbrev pub arriving : Put → ℕ → Put
@@ -29,7 +33,7 @@ ArriveOutcome old new put Failed = PutOutcome old new put (Err PutFailed)
 ArriveOutcome old new put NoMemory = PutOutcome old new put (Err PutNoMemory)
 
 -- what is then in flight: after want of memory the write still is
-abbrev pub left_by : Arrived → Writes → ℕ → Writes
+abbrev pub left_by : {V : Type 0} → Arrived → List (Ticket × V) → ℕ → List (Ticket × V)
 left_by Written writes t = without writes t
 left_by (Late stamp now) writes t = without writes t
 left_by Failed writes t = without writes t

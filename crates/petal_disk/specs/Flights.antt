@@ -8,14 +8,16 @@ use Rattle.std.specs.Ordering.{nat_cmp, on}
 use Rattle.std.specs.declared.cmp.Ordering.{Ordering}
 use Rattle.frang_outside.specs.declared.act.Put.{Put}
 use Rattle.petal_disk.specs.declared.ticket.Ticket.{Ticket}
+use Rattle.petal_disk.specs.declared.flying.Flying.{Flying}
 
 -- the writes with their tickets
 abbrev pub Writes : Type 0
 Writes = List (Ticket × Put)
 
--- the writes in flight, ascending by ticket; the ticket of the next one; how many more may be issued without want of memory
+-- the puts in flight, ascending by ticket, and the same with what each is of; the ticket of the next one; how many more may be issued without want of memory
 pub record Flights : Type 0 where
   pub writes : Writes
+  pub flying : List (Ticket × Flying)
   pub next : ℕ
   pub room : ℕ
 
@@ -24,11 +26,11 @@ abbrev pub is_ticket : ℕ → Ticket → Bool
 is_ticket t ticket = ticket.0 == t
 
 -- the write with this ticket
-abbrev pub write_at : Writes → ℕ → Option Put
+abbrev pub write_at : {V : Type 0} → List (Ticket × V) → ℕ → Option V
 write_at writes t = lookup (is_ticket t) writes
 
 -- the writes but the one with this ticket
-abbrev pub without : Writes → ℕ → Writes
+abbrev pub without : {V : Type 0} → List (Ticket × V) → ℕ → List (Ticket × V)
 without writes t = remove_entry (is_ticket t) writes
 
 -- the ticket of the write of this sector
@@ -52,4 +54,5 @@ pub record AreFlights (flights : Flights) : Type 0 where
 -- the same writes are in flight, and the same ticket is the next
 pub record IsSame (old new : Flights) : Type 0 where
   pub writes : new.writes ≡ old.writes
+  pub flying : new.flying ≡ old.flying
   pub next : new.next ≡ old.next

@@ -1,17 +1,18 @@
 -- How the writes in flight are kept: in order of their tickets, each in a box of its own, and beside them the tickets in order of the sectors.
-use Rattle.std.specs.Prelude.{◌≡◌, ℕ, List, map}
-use Rattle.frang_outside.specs.declared.act.Put.{Put}
+use Rattle.std.specs.Prelude.{◌≡◌, ℕ, List, [], map}
+use Rattle.petal_disk.specs.declared.flying.Flying.{Flying}
 use Rattle.sector_bytes.specs.SectorMaps.{Ascend, value_at}
 use Rattle.petal_disk.specs.declared.ticket.Ticket.{Ticket}
 use Rattle.petal_disk.specs.Flights.{Writes, AreFlights, busy_with}
 
--- the writes, ascending by ticket, and for how many more there is room
+-- the puts, ascending by ticket, and the same with what each is of, and for how many more there is room
 pub record Kept : Type 0 where
   pub writes : Writes
+  pub flying : List (Ticket × Flying)
   pub spare : ℕ
 
 -- each ticket with what its box holds
-abbrev pub opened : {B : Type 0} → List (Ticket × B) → (B → Put) → Writes
+abbrev pub opened : {B V : Type 0} → List (Ticket × B) → (B → V) → List (Ticket × V)
 opened boxes held = map (λ write. (write.0, held write.1)) boxes
 
 -- each sector has the ticket of its write, and the others none
@@ -20,6 +21,6 @@ IsIndex tickets writes = (sector : ℕ) → value_at tickets sector ≡ busy_wit
 
 -- the writes are those in flight, and the tickets, ascending by sector, are theirs
 pub record AreKept (writes : Writes) (next : ℕ) (tickets : List (ℕ × Ticket)) : Type 0 where
-  pub flights : AreFlights (record { writes = writes; next = next; room = 0 })
+  pub flights : AreFlights (record { writes = writes; flying = []; next = next; room = 0 })
   pub ordered : Ascend tickets
   pub index : IsIndex tickets writes

@@ -1,3 +1,4 @@
 pub mod Arriving
 pub mod Flights
+pub mod Flying
 pub mod Keeping

@@ -6,11 +6,12 @@ ghost use Rattle.std.specs.Option.{option_copied, option_map};
 ghost use Rattle.lock_definitions.specs.Lease.{IsInTime};
 ghost use Rattle.frang_outside.specs.Outside.{NoneFell};
 ghost use Rattle.petal_disk.specs.Flights.{AreFlights, IsSame, write_at, without, busy_with};
+ghost use Rattle.petal_disk.specs.Flying.{flying_of, has_flights, has_flights_under, left_behind, moved, puts};
 ghost use Rattle.petal_disk.specs.Arriving.{IssueOutcome, ArriveOutcome, arriving, left_by};
 
 use crate::by_ticket::WritesByTicket;
-use crate::{Arrived, IssueFault, Ticket};
-use frang_base::NoMemory;
+use crate::{Arrived, Flying, IssueFault, Purpose, Ticket};
+use frang_base::{LockId, NoMemory, Sector, ServerId};
 use frang_outside::{Outside, Put, PutFault, Taken};
 use ordered_map::OrderedMap;
 use std::alloc::Global;
@@ -46,6 +47,7 @@ impl Model for Flight {
 
     ghost view = { λ flight. record {
       writes = flight.writes.writes;
+      flying = flight.writes.flying;
       next = flight.next;
       room = min (min flight.writes.spare flight.tickets.spare) (2 ^ 64 - 1 - flight.next);
     } };
@@ -57,6 +59,7 @@ impl Flight {
     /// Nothing in flight; the first ticket will be 0. It takes no memory.
     pub fn new(alloc: Global) -> Flight
         ensures writes { result.writes ≡ [] }
+        ensures flying { result.flying ≡ [] }
         ensures next { result.next ≡ 0 }
     {
         Flight {
@@ -86,6 +89,7 @@ impl Flight {
     pub fn count(&self) -> usize
         ensures count { result ≡ length self.now.writes }
         ensures flights { AreFlights self.now }
+        ensures puts { self.now.writes ≡ puts self.now.flying }
     {
         self.writes.count()
     }
@@ -93,6 +97,16 @@ impl Flight {
     /// The write at a place, counted from 0 and ascending by ticket. `None` exactly where the place isn't below `count`.
     pub fn at(&self, i: usize) -> Option<(Ticket, &Put)>
         ensures { option_map (λ write. (write.0, write.1.now)) result ≡ slice_get self.now.writes i }
+    {
+        match self.writes.at(i) {
+            Some((ticket, flying)) => Some((ticket, &flying.put)),
+            None => None,
+        }
+    }
+
+    /// The same with what the write is of. It takes time in the number of the pieces, of some hundred writes each, in which the writes lie.
+    pub fn flying_at(&self, i: usize) -> Option<(Ticket, &Flying)>
+        ensures { option_map (λ write. (write.0, write.1.now)) result ≡ slice_get self.now.flying i }
     {
         self.writes.at(i)
     }
@@ -102,59 +116,139 @@ impl Flight {
         ensures write { option_map (λ write. (write.0, write.1.now)) result ≡ slice_get self.now.writes 0 }
         ensures least { IfSome result (λ write. All (λ ticket. write.0.0 ≤ ticket.0) (keys_of self.now.writes)) }
     {
-        self.writes.at(0)
+        match self.writes.at(0) {
+            Some((ticket, flying)) => Some((ticket, &flying.put)),
+            None => None,
+        }
     }
 
     /// The write with this ticket. `None` exactly where it isn't in flight.
     pub fn get(&self, t: Ticket) -> Option<&Put>
         ensures { option_copied result ≡ write_at self.now.writes t.0 }
     {
+        match self.writes.get(t) {
+            Some(flying) => Some(&flying.put),
+            None => None,
+        }
+    }
+
+    /// The same with what the write is of, and whether it is of the present mount of its server. It takes time logarithmic in the number of
+    /// writes in flight.
+    pub fn flying(&self, t: Ticket) -> Option<&Flying>
+        ensures { option_copied result ≡ write_at self.now.flying t.0 }
+    {
         self.writes.get(t)
     }
 
-    /// Puts a write in flight, and gives its ticket, the next one. `Busy` comes exactly where a write of this sector is in flight,
-    /// and shows that write's ticket. After a refusal nothing has changed; `NoMemory` doesn't come where there is room.
+    /// The ticket of the write of this sector. `None` exactly where no write of it is in flight. It takes time logarithmic in the number of
+    /// writes in flight, and no memory.
+    pub fn busy(&self, sector: Sector) -> Option<Ticket>
+        ensures { result ≡ busy_with self.now.writes sector.0 }
+    {
+        self.tickets.get(&sector.0).copied()
+    }
+
+    /// Whether a write of a server's present mount is in flight. It takes no memory, and time in the number of writes in flight.
+    pub fn has_flights(&self, server: ServerId) -> bool
+        ensures { result ≡ has_flights self.now.flying server.0 }
+    {
+        self.writes.has_of(server, None)
+    }
+
+    /// Whether one in place under this lock is. It takes no memory, and time in the number of writes in flight.
+    pub fn has_flights_under(&self, server: ServerId, lock: LockId) -> bool
+        ensures { result ≡ has_flights_under self.now.flying server.0 lock }
+    {
+        self.writes.has_of(server, Some(lock))
+    }
+
+    /// Puts a write in flight that is of no log and under no lock, as one of a recovery: the same as `issue_as` with that.
     pub fn issue(&mut self, put: Put) -> Result<Ticket, IssueFault>
-        ensures outcome { IssueOutcome self.old self.new put result }
+        ensures outcome { IssueOutcome self.old self.new put Purpose.OfRecovery result }
         ensures sure { 0 < self.old.room → result ≢ Err IssueFault.NoMemory }
         ensures room { self.old.room ≤ self.new.room + 1 }
         ensures refused { OnErr result (self.old.room ≤ self.new.room) }
     {
-        if let Some(ticket) = self.tickets.get(&put.sector.0) {
-            return Err(IssueFault::Busy { ticket: *ticket });
+        self.issue_as(put, Purpose::OfRecovery)
+    }
+
+    /// Puts a write in flight that is of this, and of the present mount of its server, and gives its ticket, the next one. `Busy` comes exactly
+    /// where a write of this sector is in flight, and shows that write's ticket. After a refusal nothing has changed; `NoMemory` doesn't come
+    /// where there is room. It takes time logarithmic in the number of writes in flight.
+    pub fn issue_as(&mut self, put: Put, purpose: Purpose) -> Result<Ticket, IssueFault>
+        ensures outcome { IssueOutcome self.old self.new put purpose result }
+        ensures sure { 0 < self.old.room → result ≢ Err IssueFault.NoMemory }
+        ensures room { self.old.room ≤ self.new.room + 1 }
+        ensures refused { OnErr result (self.old.room ≤ self.new.room) }
+    {
+        if let Some(ticket) = self.busy(put.sector) {
+            return Err(IssueFault::Busy { ticket });
         }
         match self.reserve() {
-            Ok(()) => Ok(self.add(put)),
+            Ok(()) => Ok(self.add(put, purpose)),
             Err(NoMemory) => Err(IssueFault::NoMemory),
         }
     }
 
     // Puts a write in flight, of whose sector none is, and for which there is room.
-    fn add(&mut self, put: Put) -> Ticket
+    fn add(&mut self, put: Put, purpose: Purpose) -> Ticket
         requires free { busy_with self.old.writes put.sector.0 ≡ None }
         requires room { 0 < self.old.room }
         ensures ticket { result.0 ≡ self.old.next }
         ensures writes { self.new.writes ≡ self.old.writes ++ (result, put) ∷ [] }
+        ensures flying { self.new.flying ≡ self.old.flying ++ (result, flying_of put purpose) ∷ [] }
         ensures next { self.new.next ≡ self.old.next + 1 }
         ensures left { self.old.room ≤ self.new.room + 1 }
     {
         let ticket = Ticket(self.next);
+        let flying = Flying {
+            put,
+            purpose,
+            present: true,
+        };
         self.tickets.put(put.sector.0, ticket);
-        self.writes.push(ticket, put);
+        self.writes.push(ticket, flying);
         self.next += 1;
         ticket
+    }
+
+    /// The write of a sector, if it is one in place of this server's present mount, is under this lock from now on. Nothing else changes. It
+    /// takes time logarithmic in the number of writes in flight, and no memory.
+    pub fn move_cover(&mut self, server: ServerId, sector: Sector, cover: LockId)
+        ensures writes { self.new.writes ≡ self.old.writes }
+        ensures flying { self.new.flying ≡ moved server.0 sector.0 cover self.old.flying }
+        ensures next { self.new.next ≡ self.old.next }
+        ensures room { self.new.room ≡ self.old.room }
+    {
+        let _ = self.writes.count();
+        match self.busy(sector) {
+            Some(ticket) => self.writes.cover(ticket, server, cover),
+            None => {}
+        }
+    }
+
+    /// All writes of a server in flight are of an earlier mount of it from now on. Nothing else changes. It takes no memory, and time in the
+    /// number of writes in flight, each looked up by its place.
+    pub fn leave_behind(&mut self, server: ServerId)
+        ensures writes { self.new.writes ≡ self.old.writes }
+        ensures flying { self.new.flying ≡ left_behind server.0 self.old.flying }
+        ensures next { self.new.next ≡ self.old.next }
+        ensures room { self.new.room ≡ self.old.room }
+    {
+        self.writes.leave_behind(server);
     }
 
     /// A write in flight is lost. It takes no memory.
     pub fn lose(&mut self, t: Ticket)
         requires { IsSome (write_at self.old.writes t.0) }
         ensures writes { self.new.writes ≡ without self.old.writes t.0 }
+        ensures flying { self.new.flying ≡ without self.old.flying t.0 }
         ensures next { self.new.next ≡ self.old.next }
         ensures room { self.old.room ≤ self.new.room }
     {
         match self.writes.get(t) {
-            Some(put) => {
-                let sector = put.sector;
+            Some(flying) => {
+                let sector = flying.put.sector;
                 self.tickets.remove(&sector.0);
                 self.writes.remove(t);
             }
@@ -172,6 +266,7 @@ impl Flight {
         ensures in_time { IfSome (write_at self.old.writes t.0) (λ put. result ≡ Arrived.Written → IsInTime put.stamp now) }
         ensures late { IfSome (write_at self.old.writes t.0) (λ put. put.stamp < now → (result ≡ Arrived.Late put.stamp now) ⊎ (result ≡ Arrived.NoMemory)) }
         ensures writes { self.new.writes ≡ left_by result self.old.writes t.0 }
+        ensures flying { self.new.flying ≡ left_by result self.old.flying t.0 }
         ensures next { self.new.next ≡ self.old.next }
         ensures room { self.old.room ≤ self.new.room }
     {
@@ -189,7 +284,7 @@ impl Flight {
         ensures { IfSome (write_at self.now.writes t.0) (λ put. result ≡ arriving put now) }
     {
         match self.writes.get(t) {
-            Some(put) => Put { now, ..*put },
+            Some(flying) => Put { now, ..flying.put },
             None => unreachable!(),
         }
     }

@@ -1,5 +1,5 @@
 -- The new write is of a sector of its own, and its ticket is above all others.
-use Rattle.std.proofs.Common.{◌≡◌, ◌+◌, is_some, if◌then◌else◌, sym, subst, ap, ◌∙◌, arith}
+use Rattle.std.proofs.Common.{[], ◌≡◌, ◌+◌, is_some, if◌then◌else◌, sym, subst, ap, ◌∙◌, arith}
 use Rattle.sector_bytes.specs.SectorMaps.{Ascend, value_at, room_for}
 use Rattle.sector_bytes.proofs.MapLaws.{ascend_with}
 use Rattle.petal_disk.specs.Flights.{AreFlights, busy_with}
@@ -19,7 +19,7 @@ invariant_of-self c =
     let sector = c.args.put.sector.0 in
     let free = ap (λ flight. busy_with flight.writes sector) c.self.view_is ∙ c.requires.free in
     record {
-      flights = subst (λ writes. AreFlights (record { writes = writes; next = c.self.inside.next + 1; room = 0 })) (sym c.push.ensures.writes) (AreFlights-issued c.self.inside.writes.writes c.self.inside.next c.args.put c.self.invariant.flights free);
+      flights = subst (λ writes. AreFlights (record { writes = writes; flying = []; next = c.self.inside.next + 1; room = 0 })) (sym c.push.ensures.writes) (AreFlights-issued c.self.inside.writes.writes c.self.inside.next c.args.put c.self.invariant.flights free);
       ordered = subst Ascend (sym c.put.ensures.entries) (ascend_with sector (record { 0 = c.self.inside.next }) c.self.inside.tickets.entries c.self.invariant.ordered);
       index = λ q. ap (λ entries. value_at entries q) c.put.ensures.entries
           ∙ IsIndex-issued c.self.inside.tickets.entries c.self.inside.writes.writes (record { 0 = c.self.inside.next }) c.args.put free c.self.invariant.index q

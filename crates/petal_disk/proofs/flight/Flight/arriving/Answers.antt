@@ -5,4 +5,4 @@ use Rattle.petal_disk.specs.Flights.{write_at}
 use Rattle.petal_disk.proofs.flight.Flight.arriving.Goals as goal
 
 pub unreachable-requires : goal.unreachable-requires
-unreachable-requires c = false≢true (subst IsSome (ap (λ flight. write_at flight.writes c.args.t.0) (sym c.self.view_is) ∙ sym c.in-None.ensures) c.requires)
+unreachable-requires c = false≢true (subst IsSome (ap (λ flight. write_at flight.writes c.args.t.0) (sym c.self.view_is) ∙ sym c.in-None.ensures.writes) c.requires)
