@@ -1,5 +1,5 @@
 -- No step is of a core that is over, so that a run from there ends where it begins.
-use Rattle.std.proofs.Common.{ℕ, ◌≡◌, Bool, not, ◌&&◌, ◌==◌, IsTrue, refl}
+use Rattle.std.proofs.Common.{◌≡◌, not, ◌==◌, IsTrue, refl}
 use Rattle.std.proofs.lemmas.Bool.{and_parts, both_ways, not-true}
 use Rattle.core_definitions.specs.LineGuards.{is_server}
 use Rattle.core_definitions.specs.Runs.{State, Step, Event_, Enter, Hold, Flush, Relock, Note, Peek, PeekFails, Run, Stays, Goes, goes_on, is_note}

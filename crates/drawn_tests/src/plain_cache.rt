@@ -23,6 +23,8 @@ struct Entry {
     block: Block,
     cover: LockId,
     mark: Option<u64>,
+    // Where there is a mark: one of file bytes.
+    is_bytes: bool,
 }
 
 // The sector is below the least one so far.
@@ -73,6 +75,7 @@ impl PlainCache {
                 let entry = *entry;
                 self.set(Entry {
                     mark: None,
+                    is_bytes: false,
                     ..entry
                 })
             }
@@ -90,6 +93,7 @@ impl PlainCache {
                     block,
                     cover,
                     mark: Some(mark),
+                    is_bytes: false,
                 })
             }
             _ => Ok(()),
@@ -104,6 +108,16 @@ impl PlainCache {
             }
             None => Ok(()),
         }
+    }
+
+    // No sector is dirty.
+    fn is_all_clean(&self) -> bool {
+        for entry in &self.entries {
+            if entry.mark.is_some() {
+                return false;
+            }
+        }
+        true
     }
 
     // The least dirty sector under a lock.
@@ -168,13 +182,14 @@ impl Both {
         })
     }
 
-    // Caches a sector, dirty where there is a mark.
+    // Caches a sector, dirty where there is a mark: as file bytes, or else as zeros.
     fn set(&mut self, entry: Entry) -> Result<(), NoMemory> {
         self.cache.reserve(1)?;
         match entry.mark {
-            Some(mark) => self
+            Some(mark) if entry.is_bytes => self
                 .cache
                 .set_bytes(entry.sector, entry.block, mark, entry.cover),
+            Some(mark) => self.cache.set_zeros(entry.sector, mark, entry.cover),
             None => self.cache.set_clean(entry.sector, entry.block, entry.cover),
         }
         self.plain.set(entry)
@@ -227,9 +242,16 @@ impl Both {
     fn is_alike(&self, sector: Sector) -> bool {
         let cached = self.cache.get(sector);
         let cover = self.cache.cover(sector);
+        let mark = self.cache.mark(sector);
+        let is_bytes = self.cache.is_bytes(sector);
         match self.plain.entry(sector) {
-            Some(entry) => cached == Some(&entry.block) && cover == Some(entry.cover),
-            None => cached.is_none() && cover.is_none(),
+            Some(entry) => {
+                cached == Some(&entry.block)
+                    && cover == Some(entry.cover)
+                    && mark == entry.mark
+                    && is_bytes == entry.is_bytes
+            }
+            None => cached.is_none() && cover.is_none() && mark.is_none() && !is_bytes,
         }
     }
 
@@ -244,6 +266,9 @@ impl Both {
 
     // The same dirty sectors may go.
     fn go_alike(&self) -> bool {
+        if self.cache.is_all_clean() != self.plain.is_all_clean() {
+            return false;
+        }
         for reached in 0..MARKS {
             if self.cache.next_dirty(reached) != self.plain.next_dirty(reached) {
                 return false;
@@ -254,7 +279,7 @@ impl Both {
 
     // A drawn call of both; false where they answer differently.
     fn call(&mut self, draws: &mut Draws) -> Result<bool, NoMemory> {
-        let kind = draws.draw() % 9;
+        let kind = draws.draw() % 10;
         let number = draws.draw() % SECTORS;
         let sector = Sector(number);
         let cover = lock_of(draws.draw() % 8);
@@ -266,12 +291,14 @@ impl Both {
                 block,
                 cover,
                 mark: None,
+                is_bytes: false,
             })?,
             1 | 2 => self.set(Entry {
                 sector,
                 block,
                 cover,
                 mark: Some(n),
+                is_bytes: true,
             })?,
             3 => self.clean(sector, &block)?,
             4 => self.forget(sector),
@@ -281,6 +308,13 @@ impl Both {
                 self.change(&change, n, cover)?;
             }
             7 => self.forget_all(&[Sector(n), sector]),
+            8 => self.set(Entry {
+                sector,
+                block: small_block(0, 0),
+                cover,
+                mark: Some(n),
+                is_bytes: false,
+            })?,
             _ => return Ok(self.drop_cover(cover)),
         }
         Ok(self.is_alike(sector))

@@ -1,5 +1,5 @@
 -- Where the node that has a block is among some nodes that are at hand, or a held segment has the block free, the cover by these nodes is the cover by the naming.
-use Rattle.std.proofs.Common.{ℕ, ◌≡◌, ◌+◌, ◌*◌, ◌/◌, ◌==◌, inl, inr, ⊎_elim, Bool, true, false, if◌then◌else◌, Option, Some, None, List, [], ◌∷◌, find, is_some, refl, sym, ◌∙◌, ap, subst, eqb-true}
+use Rattle.std.proofs.Common.{ℕ, ◌≡◌, ◌+◌, ◌/◌, inl, inr, Bool, true, false, if◌then◌else◌, Option, Some, None, List, [], ◌∷◌, find, is_some, refl, sym, ◌∙◌, ap, eqb-true}
 use Rattle.std.proofs.lemmas.Bool.{eq-eqb}
 use Rattle.std.specs.List.{Contains}
 use Rattle.frang_base.specs.declared.lock.LockId.TheVariants as lock
@@ -16,7 +16,7 @@ use Rattle.disk_definitions.specs.OnDisk.{AreOfDisk, StandsBelow}
 use Rattle.disk_definitions.specs.Written.{Cached, inode_at_hand}
 use Rattle.disk_definitions.specs.Covers as true_covers
 use Rattle.disk_definitions.specs.Covers.{cover_of}
-use Rattle.disk_definitions.specs.CoversAtHand.{has_small, has_large, small_owner_among, large_owner_among, node_or_segment, is_marked_unused, cover_among}
+use Rattle.disk_definitions.specs.CoversAtHand.{has_small, has_large, small_owner_among, large_owner_among, node_or_segment, cover_among}
 use Rattle.plan_laws.specs.Moves.{HasSmall, HasLarge}
 use Rattle.plan_laws.proofs.Moving.{small_lock, large_lock, free_lock, free_large, used_small, used_large}
 use Rattle.plan_laws.proofs.OneNode.{small_of}

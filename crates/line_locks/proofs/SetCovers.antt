@@ -1,9 +1,8 @@
 -- The node under which file bytes lie that a finished line sets is one of those at whose inodes it looked, so that these tell the cover.
-use Rattle.std.proofs.Common.{◌≡◌, ℕ, ◌/◌, ◌++◌, ◌⊎◌, inl, inr, ⊎_elim, Bool, true, false, if◌then◌else◌, Some, List, [], ◌∷◌, filter, refl, sym, ap, subst}
+use Rattle.std.proofs.Common.{◌≡◌, ℕ, ◌/◌, ◌++◌, ◌⊎◌, inl, inr, ⊎_elim, Bool, true, false, if◌then◌else◌, List, [], ◌∷◌, filter, refl, sym, ap, subst}
 use Rattle.std.specs.List.{Contains}
 use Rattle.std.specs.Map.{keys_of}
 use Rattle.frang_base.specs.declared.limits.TheConstants.{SEGMENT_BLOCKS, SEGMENT_INODES}
-use Rattle.frang_base.specs.declared.lock.LockId.{LockId}
 use Rattle.frang_base.specs.declared.lock.LockId.TheVariants as lock
 use Rattle.frang_base.specs.declared.lock.Mode.TheVariants.{Shared, Sole}
 use Rattle.frang_base.specs.declared.op.Op.{Op}
@@ -16,12 +15,12 @@ use Rattle.disk_definitions.specs.Edits.{Edit}
 use Rattle.disk_definitions.specs.Edits.Edit.{SetInode, SetBit, SetUse, SetPlace, SetLarge, SetBytes, SetLargeBytes}
 use Rattle.disk_definitions.specs.FoundLocks.{edit_locks, edit_locks_of, finish_locks, full_locks, owns_at_hand}
 use Rattle.disk_definitions.specs.Held.{Segments}
-use Rattle.disk_definitions.specs.Ask.{Sector, InodeAt, DirectoryAt, SegmentAt, BytesAt, LargeAt, Ask, looks, meet}
+use Rattle.disk_definitions.specs.Ask.{Sector, InodeAt, DirectoryAt, SegmentAt, BytesAt, LargeAt, looks, meet}
 use Rattle.disk_definitions.specs.Ask.Met.{Has}
 use Rattle.disk_definitions.specs.Lines.{plan_of_line}
 use Rattle.disk_definitions.specs.LookedAt.{looked_nodes, nodes_of}
 use Rattle.disk_definitions.specs.OnDisk.{AreOfDisk, StandsBelow}
-use Rattle.disk_definitions.specs.Plans.{Finish, Lock, Plan, says_full, shared_nodes, sole_nodes, sole_segments}
+use Rattle.disk_definitions.specs.Plans.{Finish, Lock, says_full, shared_nodes, sole_nodes, sole_segments}
 use Rattle.disk_definitions.specs.Plans.Plan.{Finishes}
 use Rattle.disk_definitions.specs.Written.{Cached, at_hand, hand_of, is_metadata}
 use Rattle.disk_definitions.proofs.Listed.{Among, among_filtered}

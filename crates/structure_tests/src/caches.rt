@@ -27,8 +27,16 @@ enum Step {
     // The next one, where the log stands so far.
     Next(u64, Option<Sector>),
     IsClean(LockId, bool),
+    // No sector is dirty.
+    IsAllClean(bool),
+    // The mark of a dirty sector.
+    HasMark(u64, Option<u64>),
+    // The sector is dirty, and one of file bytes.
+    IsBytes(u64, bool),
     // Bytes that the disk doesn't have, with a mark, under the node.
     SetBytes(u64, Small, u64),
+    // Zeros in place of metadata, the same way.
+    SetZeros(u64, u64),
     // The same by a change, which is made or not.
     Change(u64, Small, u64, bool),
     Clean(u64, Small),
@@ -78,6 +86,13 @@ fn set_bytes(cache: &mut Cache, sector: u64, small: Small, mark: u64) -> Result<
     Ok(true)
 }
 
+// Caches zeros that the disk doesn't have, under the node.
+fn set_zeros(cache: &mut Cache, sector: u64, mark: u64) -> Result<bool, NoMemory> {
+    cache.reserve(1)?;
+    cache.set_zeros(Sector(sector), mark, NODE);
+    Ok(true)
+}
+
 fn clean(cache: &mut Cache, sector: u64, small: Small) -> bool {
     let (version, byte) = small;
     cache.clean(Sector(sector), &small_block(version, byte));
@@ -124,7 +139,11 @@ fn is_answered(cache: &mut Cache, alloc: Global, step: Step) -> Result<bool, NoM
         Step::Dirty(marks) => has_dirty(cache, marks)?,
         Step::Next(reached, next) => cache.next_dirty(reached) == next,
         Step::IsClean(lock, is_so) => cache.is_clean(lock) == is_so,
+        Step::IsAllClean(is_so) => cache.is_all_clean() == is_so,
+        Step::HasMark(sector, mark) => cache.mark(Sector(sector)) == mark,
+        Step::IsBytes(sector, is_so) => cache.is_bytes(Sector(sector)) == is_so,
         Step::SetBytes(sector, small, mark) => set_bytes(cache, sector, small, mark)?,
+        Step::SetZeros(sector, mark) => set_zeros(cache, sector, mark)?,
         Step::Change(sector, small, mark, is_made) => {
             change(cache, alloc, sector, small, mark)? == is_made
         }
@@ -230,6 +249,35 @@ static ASCENDING: [Step; 8] = [
 #[test]
 fn dirty_sectors_ascend(rt: HostRuntime) -> Result<(), Fail> {
     expect(&rt, rt.alloc(), &ASCENDING)
+}
+
+// Zeros, of metadata, in place of what was cached; file bytes, also of a sector that wasn't; and a change over the zeros.
+static OF_BOTH_KINDS: [Step; 20] = [
+    Step::HasMark(5, None),
+    Step::IsBytes(5, false),
+    Step::IsAllClean(true),
+    Step::SetZeros(5, 257),
+    Step::Holds(5, Some((0, 0))),
+    Step::HasMark(5, Some(257)),
+    Step::IsBytes(5, false),
+    Step::SetBytes(4, (0, 41), 258),
+    Step::HasMark(4, Some(258)),
+    Step::IsBytes(4, true),
+    Step::Move(4, SEGMENT),
+    Step::IsBytes(4, true),
+    Step::Change(5, (1, 51), 259, true),
+    Step::HasMark(5, Some(259)),
+    Step::IsBytes(5, false),
+    Step::Clean(4, (0, 41)),
+    Step::IsBytes(4, false),
+    Step::IsAllClean(false),
+    Step::Clean(5, (1, 51)),
+    Step::IsAllClean(true),
+];
+
+#[test]
+fn a_dirty_sector_is_one_of_bytes_or_not(rt: HostRuntime) -> Result<(), Fail> {
+    expect(&rt, rt.alloc(), &OF_BOTH_KINDS)
 }
 
 static DIRTY: [Mark; 2] = [
