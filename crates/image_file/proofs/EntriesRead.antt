@@ -27,7 +27,7 @@ MayHave (Some flaw) = IsOfDisk flaw
 
 -- ---- the flaw of an entry
 
-block_may_have : (r : Option Region) (block : List ℕ) → are_zero block ≡ false → MayHave (block_flaw r block)
+pub block_may_have : (r : Option Region) (block : List ℕ) → are_zero block ≡ false → MayHave (block_flaw r block)
 block_may_have None block z = tt
 block_may_have (Some r) block z =
     subst (λ (b : Bool). MayHave (cond b (Some OfZeros) (cond (block_fits r block) None (Some BadSector)))) (sym z)
@@ -38,7 +38,7 @@ entry_may_have segments before s block h z =
     subst (λ (b : Bool). MayHave (cond b (Some OutOfOrder) (block_flaw (region_of segments s) block))) (sym (lt-leb s before h))
     (block_may_have (region_of segments s) block z)
 
-no_block_flaw : (o : Option Region) (r : Region) (block : List ℕ) → o ≡ Some r → are_zero block ≡ false → block_fits r block ≡ true → block_flaw o block ≡ None
+pub no_block_flaw : (o : Option Region) (r : Region) (block : List ℕ) → o ≡ Some r → are_zero block ≡ false → block_fits r block ≡ true → block_flaw o block ≡ None
 no_block_flaw None r block p z f = cc
 no_block_flaw (Some x) r block p z f =
     let same : x ≡ r = cc in
@@ -57,12 +57,14 @@ record Fits (o : Option Region) (block : List ℕ) : Type 0 where
   written : are_zero block ≡ false
   grammar : block_fits region block ≡ true
 
-fits_by : (r : Region) (block : List ℕ) → block_flaw (Some r) block ≡ None → Fits (Some r) block
-fits_by r block =
-    by_test (λ (o : Option ImageFlaw). o ≡ None → Fits (Some r) block) (Some OfZeros) (cond (block_fits r block) None (Some BadSector)) (are_zero block)
+pub unflawed : (r : Region) (block : List ℕ) → block_flaw (Some r) block ≡ None → (are_zero block ≡ false) × (block_fits r block ≡ true)
+unflawed r block =
+    by_test (λ (o : Option ImageFlaw). o ≡ None → (are_zero block ≡ false) × (block_fits r block ≡ true)) (Some OfZeros) (cond (block_fits r block) None (Some BadSector)) (are_zero block)
     (λ z e. cc)
-    (λ z. by_test (λ (o : Option ImageFlaw). o ≡ None → Fits (Some r) block) None (Some BadSector) (block_fits r block)
-    (λ f e. record { region = r; place = refl; written = z; grammar = f }) (λ f e. cc))
+    (λ z. by_test (λ (o : Option ImageFlaw). o ≡ None → (are_zero block ≡ false) × (block_fits r block ≡ true)) None (Some BadSector) (block_fits r block) (λ f e. (z, f)) (λ f e. cc))
+
+fits_by : (r : Region) (block : List ℕ) → block_flaw (Some r) block ≡ None → Fits (Some r) block
+fits_by r block e = let u = unflawed r block e in record { region = r; place = refl; written = u.0; grammar = u.1 }
 
 fits_where : (o : Option Region) (block : List ℕ) → block_flaw o block ≡ None → Fits o block
 fits_where None block e = cc

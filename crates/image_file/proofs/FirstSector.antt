@@ -11,6 +11,7 @@ use Rattle.std.proofs.lemmas.Bool.Decides.{nat_tests}
 use Rattle.frang_base.proofs.Basics.{by_test}
 use Rattle.frang_base.proofs.Tests.{cmp_less}
 use Rattle.disk_definitions.specs.declared.param.Param.{Param}
+use Rattle.disk_definitions.specs.declared.region.Region.TheVariants as region
 use Rattle.sector_bytes.specs.Bytes.{zeros, are_zero, AreBytes}
 use Rattle.disk_definitions.specs.Params.{param_in}
 use Rattle.disk_definitions.proofs.ParamLaws.{param_read}
@@ -19,10 +20,10 @@ use Rattle.sector_bytes.specs.Sectors.{sectors_of}
 use Rattle.image_file.specs.declared.fault.ImageFault.{ImageFault}
 use Rattle.image_file.specs.declared.fault.ImageFlaw.{ImageFlaw}
 use Rattle.image_file.specs.declared.fault.ImageFlaw.TheVariants.{Cut, BadSector}
-use Rattle.image_file.specs.Images.{Blocks, image_entry, entry_in, IsImaged, may_run_again, first_flaw, fault, judged, entries_in, segments_by, sectors_in}
+use Rattle.image_file.specs.Images.{Blocks, image_entry, entry_in, IsImaged, may_run_again, block_flaw, first_flaw, fault, judged, entries_in, segments_by, sectors_in}
 use Rattle.image_file.specs.Laws.{ReadsBack}
 use Rattle.image_file.proofs.EntryBytes.{IsEntry, length_entry, entry_reads, behind_entry, entry_again, read_entry}
-use Rattle.image_file.proofs.EntriesRead.{Ascend, MayHave, judged_reads, judged_ok, Entries, entries_read, entries_read_back, entries_found}
+use Rattle.image_file.proofs.EntriesRead.{Ascend, MayHave, block_may_have, no_block_flaw, unflawed, judged_reads, judged_ok, Entries, entries_read, entries_read_back, entries_found}
 use Rattle.image_file.proofs.Ascending.{Above, lt_of_less, ascend_from}
 
 -- ---- which sector is first
@@ -57,11 +58,11 @@ first_of ((suc n, b) ∷ es) p s e =
 
 -- ---- its flaw
 
-first_may_have : (s : ℕ) (block : List ℕ) → MayHave (first_flaw (s, block))
-first_may_have s block = by_test MayHave None (Some BadSector) (nat_eq s 0 && may_run_again (param_in block)) (λ t. tt) (λ t. tt)
+first_may_have : (s : ℕ) (block : List ℕ) → are_zero block ≡ false → MayHave (first_flaw (s, block))
+first_may_have s block z = by_test MayHave (block_flaw (Some region.Param) block) (Some BadSector) (nat_eq s 0) (λ t. block_may_have (Some region.Param) block z) (λ t. tt)
 
-first_fits : (block : List ℕ) → may_run_again (param_in block) ≡ true → first_flaw (0, block) ≡ None
-first_fits block f = ap (λ (b : Bool). cond b None (Some BadSector)) f
+first_fits : (block : List ℕ) → may_run_again (param_in block) ≡ true → are_zero block ≡ false → first_flaw (0, block) ≡ None
+first_fits block f z = no_block_flaw (Some region.Param) region.Param block refl z f
 
 record FirstFits (s : ℕ) (block : List ℕ) : Type 0 where
   zero_th : s ≡ 0
@@ -73,14 +74,10 @@ may_run : (o : Option Param) → may_run_again o ≡ true → (p : Param) × (o 
 may_run None h = cc
 may_run (Some p) h = (p, refl)
 
--- the parameter sector begins with its mark, and so isn't zero
-marked : (block : List ℕ) → may_run_again (param_in block) ≡ true → are_zero block ≡ false
-marked block f = let m = may_run (param_in block) f in ap are_zero (param_read block m.0 m.1).0
-
 first_flawless : (s : ℕ) (block : List ℕ) → first_flaw (s, block) ≡ None → FirstFits s block
 first_flawless s block =
-    by_test (λ (o : Option ImageFlaw). o ≡ None → FirstFits s block) None (Some BadSector) (nat_eq s 0 && may_run_again (param_in block))
-    (λ t e. let parts = and_parts (nat_eq s 0) (may_run_again (param_in block)) t in record { zero_th = eqb-true s 0 parts.0; written = marked block parts.1; fits = parts.1 })
+    by_test (λ (o : Option ImageFlaw). o ≡ None → FirstFits s block) (block_flaw (Some region.Param) block) (Some BadSector) (nat_eq s 0)
+    (λ t e. let u = unflawed region.Param block e in record { zero_th = eqb-true s 0 t; written = u.0; fits = u.1 })
     (λ t e. cc)
 
 -- ---- it and the others
@@ -108,7 +105,7 @@ pub sectors_read_back : (es : Blocks) → AscendAll es → ReadsBack es (sectors
 sectors_read_back [] h = tt
 sectors_read_back ((s, block) ∷ es) h =
     rw (first_step (length es) s block (flat_map image_entry es) h.0)
-    (judged_reads 16 (first_flaw (s, block)) (s, block) _ es (first_may_have s block)
+    (judged_reads 16 (first_flaw (s, block)) (s, block) _ es (first_may_have s block h.1)
     (entries_read_back (segments_by (param_in block)) 0 536 es (ascend_from 0 s es (omega arith) h.2)))
 
 pub sectors_found : (block : List ℕ) (es : Blocks) (p : Param) → param_in block ≡ Some p → may_run_again (param_in block) ≡ true → are_zero block ≡ false → IsEntry (0, block) → Ascend 0 es
@@ -116,7 +113,7 @@ pub sectors_found : (block : List ℕ) (es : Blocks) (p : Param) → param_in bl
 sectors_found block es p e f z w a i =
     let segments : segments_by (param_in block) ≡ p.segments = ap segments_by e in
     first_step (length es) 0 block (flat_map image_entry es) w
-    ∙ rw (first_fits block f, segments, entries_found p.segments 0 536 es a i) refl
+    ∙ rw (first_fits block f z, segments, entries_found p.segments 0 536 es a i) refl
 
 pub record Sectors (count : ℕ) (bytes : List ℕ) (es : Blocks) : Type 0 where
   pub block : List ℕ

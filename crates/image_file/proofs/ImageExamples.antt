@@ -147,7 +147,8 @@ zero_small_block = refl
 
 -- ---- grammars
 
-zero_parameters : image_in (image_with ((0, replicate 512 0) ∷ [])) ≡ Err (fault 16 BadSector)
+zero_parameters : image_in (image_with ((0, replicate 512 0) ∷ [])) ≡ Err (fault 16 OfZeros)
+unfolding zeros
 zero_parameters = refl
 
 zeros_first_elsewhere : image_in (image_with ((1, replicate 512 0) ∷ [])) ≡ Err (fault 16 BadSector)

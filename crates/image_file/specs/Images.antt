@@ -1,5 +1,5 @@
 -- Images of disks: a mark, the number of sectors, and an entry for each sector that isn't zero, ascending. Bytes that are no image have a first fault.
-use Rattle.std.specs.Prelude.{ℕ, zero, suc, ◌+◌, Bool, true, false, not, ◌&&◌, ◌==◌, ◌≡◌, if◌then◌else◌, nat_le, nat_lt, Option, Some, None, Result, Ok, Err, List, [], ◌∷◌, ◌++◌, length, take, drop, is_some, codes}
+use Rattle.std.specs.Prelude.{ℕ, zero, suc, ◌+◌, Bool, true, false, not, ◌==◌, ◌≡◌, if◌then◌else◌, nat_le, nat_lt, Option, Some, None, Result, Ok, Err, List, [], ◌∷◌, ◌++◌, length, take, drop, is_some, codes}
 use Rattle.std.specs.List.{filter, flat_map, All}
 use Rattle.std.specs.List.Sorted.{IsStrictlySortedBy}
 use Rattle.std.specs.Map.{keys_of}
@@ -107,9 +107,9 @@ block_flaw (Some region) block = if are_zero block then Some OfZeros else (if bl
 abbrev pub entry_flaw : ℕ → ℕ → ℕ × List ℕ → Option ImageFlaw
 entry_flaw segments before e = if nat_le e.0 before then Some OutOfOrder else block_flaw (region_of segments e.0) e.1
 
--- the flaw of the first entry, from which the segments are known: it isn't the parameter sector, whatever else is wrong with it
+-- the flaw of the first entry, from which the segments are known: it isn't that of sector 0, whatever its bytes, or its block
 abbrev pub first_flaw : ℕ × List ℕ → Option ImageFlaw
-first_flaw e = if e.0 == 0 && block_fits region.Param e.1 then None else Some BadSector
+first_flaw e = if e.0 == 0 then block_flaw (Some region.Param) e.1 else Some BadSector
 
 -- an entry before others
 abbrev pub with_entry : ℕ × List ℕ → Result Blocks ImageFault → Result Blocks ImageFault

@@ -6,9 +6,9 @@ ghost use Rattle.image_file.specs.Entries.{HasSegments, entry_of, next_entry};
 ghost use Rattle.sector_bytes.specs.Bytes.{are_zero};
 ghost use Rattle.disk_definitions.specs.Params.{param_in};
 
+use crate::fault::ImageFlaw;
 use byteorder::{ByteOrder, LittleEndian};
 use disk_definitions::{Param, Region};
-use crate::fault::ImageFlaw;
 use frang_base::limits::SECTOR_BYTES;
 use frang_base::{Block, Sector};
 use frang_layout::region_of;
@@ -86,13 +86,18 @@ pub fn entry_flaw(segments: u32, before: u64, entry: &Entry<'_>) -> Option<Image
 }
 
 // The parameters that the first entry has, with 1 to 64 segments, or its flaw.
-#[tactic(auto, using(crate::proofs::Bounds::has_segments))]
 pub fn first_param(first: &Entry<'_>) -> Result<Param, ImageFlaw>
     ensures found { MatchResult result (λ param. (first_flaw (entry_of first.now) ≡ None) × (param_in first.now.block.now ≡ Some param)) (λ flaw. first_flaw (entry_of first.now) ≡ Some flaw) }
     ensures segments { IfOk result (λ param. HasSegments param.segments) }
 {
+    if first.sector != 0 {
+        return Err(ImageFlaw::BadSector);
+    }
+    if is_zero(first.block) {
+        return Err(ImageFlaw::OfZeros);
+    }
     match param_block::decode(first.block) {
-        Some(param) if first.sector == 0 && param.run < u32::MAX => Ok(param),
+        Some(param) if param.run < u32::MAX => Ok(param),
         _ => Err(ImageFlaw::BadSector),
     }
 }

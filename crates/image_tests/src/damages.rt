@@ -17,7 +17,7 @@ const FRESH_LEN: usize = 1576;
 // What is laid over the fresh image, and how many bytes of it are there; the place and the kind of the fault, and its words.
 type Damage = (&'static str, usize, u64, u32, &'static str);
 
-static DAMAGES: [Damage; 13] = [
+static DAMAGES: [Damage; 14] = [
     (
         "",
         0,
@@ -85,6 +85,14 @@ static DAMAGES: [Damage; 13] = [
     ),
     (
         "24:0000000000000000000000000000000000",
+        FRESH_LEN,
+        16,
+        5,
+        "image: sector 0 is zeros, at byte 16",
+    ),
+    // Zeros too, but of another sector.
+    (
+        "16:01 24:0000000000000000000000000000000000",
         FRESH_LEN,
         16,
         7,

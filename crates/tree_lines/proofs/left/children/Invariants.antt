@@ -1,0 +1,11 @@
+use Rattle.std.proofs.Common.{◌≡◌, ◌++◌, map}
+use Rattle.tree_lines.specs.Waiting.{child}
+use Rattle.tree_lines.proofs.left.children.Given as goal
+
+-- the iterator of a map is seen as the entries that it has left
+abbrev pub invariant-loop-name : goal.invariant-loop-name
+invariant-loop-name l = record {
+  can : (goal.iterator-loop-name).can_next l.name-iterator;
+  ends : (goal.iterator-loop-name).is_finite l.name-iterator;
+  rest : l.more.items ++ map (child l.above l.depth) l.name-iterator ≡ map (child l.above l.depth) l.entries;
+}
