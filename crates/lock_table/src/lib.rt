@@ -13,5 +13,5 @@ mod logs;
 mod modes;
 mod table;
 
-pub use lock_definitions::{AskedFor, LogTaken, Wanted};
+pub use lock_definitions::{AskedFor, LogHold, LogTaken, Wanted};
 pub use table::LockTable;

@@ -12,7 +12,6 @@ use Rattle.std.specs.BTreeMap.{insert_entry, is_at}
 use Rattle.std.specs.Option.{option_map}
 use Rattle.std.proofs.lemmas.Map.Made.{lookup-map_values}
 use Rattle.std.specs.Ordering.{nat_cmp, is_eq, match_ordering}
-use Rattle.frang_outside.specs.declared.act.Put.{Put}
 use Rattle.petal_disk.specs.declared.ticket.Ticket.{Ticket}
 use Rattle.petal_disk.specs.Flights.{Writes, is_ticket, ticket_cmp, write_at, without}
 use Rattle.petal_disk.specs.Keeping.{opened}

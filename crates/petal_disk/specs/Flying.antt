@@ -1,5 +1,5 @@
 -- The writes in flight with what each is of, and what becomes of them: as the core tells its flights.
-use Rattle.std.specs.Prelude.{ℕ, zero, suc, ◌==◌, Bool, true, false, ◌&&◌, if◌then◌else◌, Option, Some, None, List, [], ◌∷◌, map}
+use Rattle.std.specs.Prelude.{ℕ, zero, suc, ◌==◌, Bool, true, false, not, ◌&&◌, if◌then◌else◌, Option, Some, None, List, [], ◌∷◌, map, filter}
 use Rattle.std.specs.List.{list_any}
 use Rattle.frang_base.specs.declared.lock.LockId.{LockId}
 use Rattle.lock_definitions.specs.Order.{is_lock}
@@ -73,6 +73,21 @@ moved server sector cover flights = each_of_sector sector (covered server cover)
 -- all writes of a server are of an earlier mount from now on
 abbrev pub left_behind : ℕ → InFlight → InFlight
 left_behind server flights = each_changed (left server) flights
+
+-- all writes of a server are gone
+abbrev pub lost : ℕ → InFlight → InFlight
+lost server flights = filter (λ one. not (one.1.put.server.0 == server)) flights
+
+-- those of them from a place on
+abbrev pub lost_from : ℕ → ℕ → InFlight → InFlight
+lost_from server zero flights = lost server flights
+lost_from server (suc i) [] = []
+lost_from server (suc i) (one ∷ flights) = one ∷ lost_from server i flights
+
+-- the ticket of a write, where it is the server's
+abbrev pub ticket_of : ℕ → Option (Ticket × Flying) → Option Ticket
+ticket_of server None = None
+ticket_of server (Some one) = if one.1.put.server.0 == server then Some one.0 else None
 
 -- ---- what a server has in flight
 

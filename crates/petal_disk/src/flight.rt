@@ -6,7 +6,7 @@ ghost use Rattle.std.specs.Option.{option_copied, option_map};
 ghost use Rattle.lock_definitions.specs.Lease.{IsInTime};
 ghost use Rattle.frang_outside.specs.Outside.{NoneFell};
 ghost use Rattle.petal_disk.specs.Flights.{AreFlights, IsSame, write_at, without, busy_with};
-ghost use Rattle.petal_disk.specs.Flying.{flying_of, has_flights, has_flights_under, left_behind, moved, puts};
+ghost use Rattle.petal_disk.specs.Flying.{flying_of, has_flights, has_flights_under, left_behind, lost, lost_from, moved, puts, ticket_of};
 ghost use Rattle.petal_disk.specs.Arriving.{IssueOutcome, ArriveOutcome, arriving, left_by};
 
 use crate::by_ticket::WritesByTicket;
@@ -88,6 +88,7 @@ impl Flight {
     /// How many writes are in flight.
     pub fn count(&self) -> usize
         ensures count { result ≡ length self.now.writes }
+        ensures all { result ≡ length self.now.flying }
         ensures flights { AreFlights self.now }
         ensures puts { self.now.writes ≡ puts self.now.flying }
     {
@@ -253,6 +254,50 @@ impl Flight {
                 self.writes.remove(t);
             }
             None => unreachable!(),
+        }
+    }
+
+    /// All writes of a server in flight are lost. All others stay. It takes no memory, and time in the number of writes in flight, each looked
+    /// up by its place.
+    pub fn lose_all(&mut self, server: ServerId)
+        ensures writes { self.new.writes ≡ puts (lost server.0 self.old.flying) }
+        ensures flying { self.new.flying ≡ lost server.0 self.old.flying }
+        ensures next { self.new.next ≡ self.old.next }
+        ensures room { self.old.room ≤ self.new.room }
+    {
+        let mut i = 0;
+        for turn in 0..self.count() {
+            let _ = turn;
+            i = self.lose_at(i, server);
+        }
+        let _ = self.count();
+    }
+
+    // The write at a place is lost, if it is this server's. The place to go on at.
+    fn lose_at(&mut self, i: usize, server: ServerId) -> usize
+        requires { i < length self.old.flying }
+        ensures flying { lost_from server.0 result self.new.flying ≡ lost_from server.0 i self.old.flying }
+        ensures left { length self.new.flying + i + 1 ≡ length self.old.flying + result }
+        ensures next { self.new.next ≡ self.old.next }
+        ensures room { self.old.room ≤ self.new.room }
+    {
+        let _ = self.count();
+        match self.ticket_at(i, server) {
+            Some(ticket) => {
+                self.lose(ticket);
+                i
+            }
+            None => i + 1,
+        }
+    }
+
+    // The ticket of the write at a place, if it is this server's.
+    fn ticket_at(&self, i: usize, server: ServerId) -> Option<Ticket>
+        ensures { result ≡ ticket_of server.0 (slice_get self.now.flying i) }
+    {
+        match self.flying_at(i) {
+            Some((ticket, flying)) if flying.put.server.0 == server.0 => Some(ticket),
+            _ => None,
         }
     }
 

@@ -1,10 +1,10 @@
 -- The write at the place is the one with its ticket.
-use Rattle.std.proofs.Common.{IsSome, Some, sym, ap, ◌∙◌, subst}
+use Rattle.std.proofs.Common.{sym, ap, ◌∙◌, subst}
 use Rattle.std.specs.Box.{box_value}
 use Rattle.std.specs.List.Sorted.{IsStrictlySortedBy}
 use Rattle.std.specs.Map.{keys_of}
-use Rattle.petal_disk.specs.Flights.{ticket_cmp, write_at}
-use Rattle.petal_disk.specs.Flying.{changed_place, left}
+use Rattle.petal_disk.specs.Flights.{ticket_cmp}
+use Rattle.petal_disk.specs.Flying.{left}
 use Rattle.petal_disk.proofs.Changing.{at_place, no_place, there_at}
 use Rattle.petal_disk.proofs.TicketOrder.{keys-opened}
 use Rattle.petal_disk.proofs.by_ticket.WritesByTicket.leave_at.Goals as goal

@@ -1,5 +1,5 @@
 -- One after the other is left behind.
-use Rattle.std.proofs.Common.{refl, sym, ap, ◌∙◌, arith}
+use Rattle.std.proofs.Common.{refl, ap, ◌∙◌, arith}
 use Rattle.petal_disk.specs.Flying.{changed_place, left}
 use Rattle.petal_disk.proofs.Changing.{all_changed, none_changed, one_more}
 use Rattle.petal_disk.proofs.by_ticket.WritesByTicket.leave_behind.Goals as goal

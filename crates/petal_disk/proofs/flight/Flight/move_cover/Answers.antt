@@ -1,9 +1,9 @@
 -- The write that the sector's ticket finds is the one of the sector, and no put changes.
-use Rattle.std.proofs.Common.{◌≡◌, ℕ, ◌==◌, Some, None, sym, subst, ap, ◌∙◌}
+use Rattle.std.proofs.Common.{ℕ, ◌==◌, sym, subst, ap, ◌∙◌}
 use Rattle.std.specs.List.{IsDistinct}
 use Rattle.std.specs.List.Sorted.{IsStrictlySortedBy}
 use Rattle.std.specs.Map.{keys_of}
-use Rattle.petal_disk.specs.Flights.{AreFlights, busy_with, sectors, ticket_cmp}
+use Rattle.petal_disk.specs.Flights.{busy_with, sectors, ticket_cmp}
 use Rattle.petal_disk.specs.Flying.{covered, moved}
 use Rattle.petal_disk.proofs.Changing.{by_ticket, flying_there, keys-puts, nowhere}
 use Rattle.petal_disk.proofs.flight.Flight.move_cover.Goals as goal
