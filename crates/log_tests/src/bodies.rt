@@ -1,7 +1,7 @@
 // The bodies of records worked out by hand, and for each rule a neighbour that breaks it alone.
 use crate::blocks::{CHANGE_HEAD, add};
-use frang_base::{Change, NoMemory, OpNo, Patch, Sector};
-use log_record::{decode, encode};
+use frang_base::{Change, Changes, NoMemory, OpNo, Patch, Redo, Sector};
+use log_record::{decode, encode, fits};
 use std::alloc::Global;
 use std::test::Fail;
 use test_tables::lay;
@@ -165,5 +165,20 @@ fn fields_stand_at_their_places(rt: HostRuntime) -> Result<(), Fail> {
     for field in &FIELDS {
         assert!(rt; has_field(changes, field));
     }
+    Ok(())
+}
+
+fn without_changes(alloc: Global) -> Redo {
+    Redo {
+        op: OpNo(1),
+        changes: Changes::from_vec(Vec::new(alloc)),
+    }
+}
+
+#[test]
+fn a_record_fits_with_some_changes(rt: HostRuntime) -> Result<(), Fail> {
+    let redo = decode(rt.alloc(), &BODY)?.expect(&rt, "a record");
+    assert!(rt; fits(&redo));
+    assert!(rt; !fits(&without_changes(rt.alloc())));
     Ok(())
 }

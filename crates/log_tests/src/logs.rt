@@ -1,5 +1,5 @@
 // Logs of an older program, whose records have sectors of their own: their ends and records were worked out by hand.
-use crate::pieces::expect;
+use crate::pieces::{expect, sealed};
 use std::test::Fail;
 
 // Empty sectors alone, and where a log ends.
@@ -79,4 +79,23 @@ fn logs_are_read_as_worked_out_by_hand(rt: HostRuntime) -> Result<(), Fail> {
     expect(&rt, rt.alloc(), GARBAGE)?;
     expect(&rt, rt.alloc(), WHOLE)?;
     expect(&rt, rt.alloc(), BROKEN)
+}
+
+// Logs, and whether they are sealed: no slot has a number above the end.
+static SEALED: [(&str, bool); 4] = [
+    ("", true),
+    ("empty 256 300", true),
+    ("record 256 7 2, part 258 8 0 2, record 260 9 1", false),
+    (
+        "record 256 7 2, part 258 8 0 2, record 260 9 1, empty 259 322",
+        true,
+    ),
+];
+
+#[test]
+fn a_log_is_sealed_where_nothing_stands_above_its_end(rt: HostRuntime) -> Result<(), Fail> {
+    for (pieces, is_so) in &SEALED {
+        assert!(rt; sealed(rt.alloc(), pieces)? == Some(*is_so), "{pieces}");
+    }
+    Ok(())
 }

@@ -2,7 +2,7 @@
 use crate::blocks::{CHANGE_HEAD, add, empty_block, packed_block, part_block, put, slot_of};
 use frang_base::limits::{LOG_BODY_BYTES, LOG_SECTORS, SECTOR_BYTES};
 use frang_base::{Block, NoMemory, OpNo, Redo};
-use log_reading::{greatest_operation, read_log};
+use log_reading::{greatest_operation, is_sealed, read_log};
 use std::alloc::Global;
 use std::process::Abort;
 use std::test::Fail;
@@ -258,12 +258,27 @@ fn lay_piece(alloc: Global, slots: &mut [Block], piece: &str) -> Result<(), NoMe
     }
 }
 
-// The end of the log of these pieces, and its records.
-fn read(alloc: Global, pieces: &str) -> Result<Option<(u64, Vec<Redo>)>, NoMemory> {
+// The slots of the log of these pieces.
+fn slots_with(alloc: Global, pieces: &str) -> Result<Vec<Block>, NoMemory> {
     let mut slots = vec![in alloc; [0; SECTOR_BYTES]; LOG_SECTORS as usize]?;
     for piece in pieces.split(',') {
         lay_piece(alloc, &mut slots, piece)?;
     }
+    Ok(slots)
+}
+
+/// Whether the log of these pieces is sealed.
+pub(crate) fn sealed(alloc: Global, pieces: &str) -> Result<Option<bool>, NoMemory> {
+    let slots = slots_with(alloc, pieces)?;
+    if slots.len() != LOG_SECTORS as usize {
+        return Ok(None);
+    }
+    Ok(Some(is_sealed(alloc, &slots)?))
+}
+
+// The end of the log of these pieces, and its records.
+fn read(alloc: Global, pieces: &str) -> Result<Option<(u64, Vec<Redo>)>, NoMemory> {
+    let slots = slots_with(alloc, pieces)?;
     if slots.len() != LOG_SECTORS as usize {
         return Ok(None);
     }

@@ -1,7 +1,7 @@
 // Disks with logs whose replay was worked out by hand.
 use crate::blocks::{add, packed_block, part_block};
 use disk_definitions::Disk;
-use disk_replay::{greatest, replayed};
+use disk_replay::{greatest, is_replayed as may_change, records_of, replayed, replayed_block};
 use frang_base::{Block, NoMemory, OpNo, Sector, ServerId};
 use std::alloc::Global;
 use std::test::Fail;
@@ -248,5 +248,22 @@ fn stays_as_it_is(alloc: Global, disk: &Disk) -> Result<bool, NoMemory> {
 fn without_parameters_no_change_is_made(rt: HostRuntime) -> Result<(), Fail> {
     let disk = without_parameters(rt.alloc())?;
     assert!(rt; stays_as_it_is(rt.alloc(), &disk)?);
+    Ok(())
+}
+
+// Inode 1 once both records of log 0 are replayed.
+const INODE_1_AFTER: &str = "0:030000000000000021230304";
+
+fn is_block_replayed(alloc: Global, disk: &Disk) -> Result<bool, NoMemory> {
+    let records = records_of(alloc, disk, ServerId(0))?;
+    let block = replayed_block(&records, Sector(INODE_1), &disk.get(Sector(INODE_1)));
+    Ok(block == block_of(0, INODE_1_AFTER)?)
+}
+
+#[test]
+fn one_sector_is_replayed_as_all_are(rt: HostRuntime) -> Result<(), Fail> {
+    let disk = with_logs(rt.alloc())?;
+    assert!(rt; is_block_replayed(rt.alloc(), &disk)?);
+    assert!(rt; may_change(16, Sector(INODE_1)) && !may_change(16, Sector(LOG_0)));
     Ok(())
 }

@@ -1,7 +1,7 @@
 // Writes in flight over a disk in memory: each way in which one ends.
-use frang_base::{NoMemory, Sector, ServerId};
+use frang_base::{LockId, NoMemory, Sector, ServerId};
 use frang_outside::{FaultyOutside, MemOutside, Outside, Put};
-use petal_disk::{Arrived, Flight, IssueFault, Ticket};
+use petal_disk::{Arrived, Flight, IssueFault, Purpose, Ticket};
 use std::alloc::Global;
 use std::process::Abort;
 use std::test::Fail;
@@ -30,6 +30,16 @@ enum Step {
     First(Option<(Ticket, Sector)>),
     At(usize, Option<(Ticket, Sector)>),
     Get(u64, Option<Sector>),
+    IssueAs(u64, Purpose, Result<Ticket, IssueFault>),
+    Busy(u64, Option<Ticket>),
+    MoveCover(u64, LockId),
+    LeaveBehind(u8),
+    LoseAll(u8),
+    HasFlights(u8, bool),
+    HasFlightsUnder(u8, LockId, bool),
+    // What the write is of, and whether it is of the present mount.
+    Flying(u64, Option<(Purpose, bool)>),
+    FlyingAt(usize, Option<(Purpose, bool)>),
 }
 
 // A write arrives where it is in flight.
@@ -61,6 +71,31 @@ fn sector_with(flight: &Flight, t: Ticket) -> Option<Sector> {
     Some(put.sector)
 }
 
+fn tag_with(flight: &Flight, t: Ticket) -> Option<(Purpose, bool)> {
+    let flying = flight.flying(t)?;
+    Some((flying.purpose, flying.present))
+}
+
+fn tag_at(flight: &Flight, i: usize) -> Option<(Purpose, bool)> {
+    let (_, flying) = flight.flying_at(i)?;
+    Some((flying.purpose, flying.present))
+}
+
+fn move_cover(flight: &mut Flight, sector: u64, cover: LockId) -> bool {
+    flight.move_cover(ServerId(0), Sector(sector), cover);
+    true
+}
+
+fn leave_behind(flight: &mut Flight, server: u8) -> bool {
+    flight.leave_behind(ServerId(server));
+    true
+}
+
+fn lose_all(flight: &mut Flight, server: u8) -> bool {
+    flight.lose_all(ServerId(server));
+    true
+}
+
 // The step is made, and answered so.
 fn is_answered<O: Outside>(flight: &mut Flight, out: &mut O, step: Step) -> bool {
     match step {
@@ -72,6 +107,19 @@ fn is_answered<O: Outside>(flight: &mut Flight, out: &mut O, step: Step) -> bool
         Step::First(first) => sector_of(flight.first()) == first,
         Step::At(i, write) => sector_of(flight.at(i)) == write,
         Step::Get(t, sector) => sector_with(flight, Ticket(t)) == sector,
+        Step::IssueAs(sector, purpose, answer) => {
+            flight.issue_as(write_of(sector), purpose) == answer
+        }
+        Step::Busy(sector, ticket) => flight.busy(Sector(sector)) == ticket,
+        Step::MoveCover(sector, cover) => move_cover(flight, sector, cover),
+        Step::LeaveBehind(server) => leave_behind(flight, server),
+        Step::LoseAll(server) => lose_all(flight, server),
+        Step::HasFlights(server, has) => flight.has_flights(ServerId(server)) == has,
+        Step::HasFlightsUnder(server, lock, has) => {
+            flight.has_flights_under(ServerId(server), lock) == has
+        }
+        Step::Flying(t, tag) => tag_with(flight, Ticket(t)) == tag,
+        Step::FlyingAt(i, tag) => tag_at(flight, i) == tag,
     }
 }
 
@@ -133,4 +181,42 @@ fn what_is_lost_or_fails_is_in_flight_no_more(rt: HostRuntime) -> Result<(), Fai
     let mut out = failing(alloc, &[1, 2])?;
     expect(&rt, alloc, &mut out, &LOST);
     Ok(())
+}
+
+const BEFORE: Purpose = Purpose::InPlace(LockId::Node(1));
+
+const AFTER: Purpose = Purpose::InPlace(LockId::Segment(0));
+
+const LOGGED: Purpose = Purpose::OfLog(256);
+
+// Writes of two mounts: what each is of, and what becomes of it.
+static TAGGED: [Step; 22] = [
+    Step::IssueAs(5, BEFORE, Ok(Ticket(0))),
+    Step::IssueAs(6, LOGGED, Ok(Ticket(1))),
+    Step::Busy(6, Some(Ticket(1))),
+    Step::Busy(7, None),
+    Step::MoveCover(5, LockId::Segment(0)),
+    Step::MoveCover(6, LockId::Segment(0)),
+    Step::Flying(0, Some((AFTER, true))),
+    Step::HasFlightsUnder(0, LockId::Segment(0), true),
+    Step::HasFlightsUnder(0, LockId::Node(1), false),
+    Step::LeaveBehind(1),
+    Step::HasFlights(0, true),
+    Step::FlyingAt(1, Some((LOGGED, true))),
+    Step::LeaveBehind(0),
+    Step::HasFlights(0, false),
+    Step::IssueAs(7, BEFORE, Ok(Ticket(2))),
+    Step::MoveCover(5, LockId::Node(1)),
+    Step::FlyingAt(0, Some((AFTER, false))),
+    Step::Flying(2, Some((BEFORE, true))),
+    Step::LoseAll(1),
+    Step::Count(3),
+    Step::LoseAll(0),
+    Step::Count(0),
+];
+
+#[test]
+fn a_write_keeps_what_it_is_of(rt: HostRuntime) {
+    let mut out = MemOutside::new(rt.alloc());
+    expect(&rt, rt.alloc(), &mut out, &TAGGED);
 }

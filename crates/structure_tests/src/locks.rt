@@ -1,6 +1,6 @@
 // A lock table's calls by two servers, the log of a dead one, and the lists in which a server tells what it has.
 use frang_base::{LockId, Mode, NoMemory, ServerId};
-use lock_definitions::{LockList, LogList};
+use lock_definitions::{LockList, LogHold, LogList};
 use lock_table::{AskedFor, LockTable, LogTaken, Wanted};
 use std::alloc::Global;
 use std::process::Abort;
@@ -14,12 +14,17 @@ enum Step {
     Reserve,
     Want(Mode, Wanted),
     Held(Option<Mode>),
+    IsWished(Mode, bool),
+    IsFree(Mode, bool),
     Revokes(&'static [(LockId, AskedFor)]),
+    AskedFor(Option<AskedFor>),
+    AskedAt(usize, Option<(LockId, AskedFor)>),
     Downgrade,
     Release,
     // The log of this server is taken at a tick, until another.
     TakeLog(ServerId, u64, u64, Result<(), LogTaken>),
     Extend(u64),
+    LogHold(ServerId, Option<LogHold>),
     Clear,
 }
 
@@ -49,6 +54,13 @@ fn is_asked(
     asked: &[(LockId, AskedFor)],
 ) -> Result<bool, NoMemory> {
     Ok(table.revokes(server)?.as_slice() == asked)
+}
+
+fn asked_for(table: &LockTable, server: ServerId) -> Option<AskedFor> {
+    if server.0 >= 16 {
+        return None;
+    }
+    table.asked_for(server, NODE)
 }
 
 fn downgrade(table: &mut LockTable, server: ServerId) -> bool {
@@ -87,13 +99,18 @@ fn is_answered(table: &mut LockTable, server: ServerId, step: Step) -> Result<bo
         Step::Reserve => reserve(table, server)?,
         Step::Want(mode, answer) => wants(table, server, mode, answer)?,
         Step::Held(held) => table.held(server, NODE) == held,
+        Step::IsWished(mode, wished) => table.is_wished(server, NODE, mode) == wished,
+        Step::IsFree(mode, free) => table.is_free(server, NODE, mode) == free,
         Step::Revokes(asked) => is_asked(table, server, asked)?,
+        Step::AskedFor(asked) => asked_for(table, server) == asked,
+        Step::AskedAt(place, asked) => table.asked_at(server, place) == asked,
         Step::Downgrade => downgrade(table, server),
         Step::Release => release(table, server),
         Step::TakeLog(dead, now, expiry, answer) => {
             table.take_log(dead, server, now, expiry) == answer
         }
         Step::Extend(expiry) => extend(table, server, expiry),
+        Step::LogHold(dead, hold) => table.log_hold(dead) == hold,
         Step::Clear => clear(table, server),
     })
 }
@@ -127,7 +144,7 @@ const FIRST: ServerId = ServerId(0);
 
 const SECOND: ServerId = ServerId(1);
 
-static SHARED: [(ServerId, Step); 15] = [
+static SHARED: [(ServerId, Step); 21] = [
     (FIRST, Step::Reserve),
     (FIRST, Step::Want(Mode::Sole, Wanted::Granted)),
     (
@@ -135,8 +152,14 @@ static SHARED: [(ServerId, Step); 15] = [
         Step::Want(Mode::Shared, Wanted::Wait { holders: 1 }),
     ),
     (FIRST, Step::Revokes(&[(NODE, AskedFor::Downgrade)])),
+    (FIRST, Step::AskedFor(Some(AskedFor::Downgrade))),
+    (FIRST, Step::AskedAt(0, Some((NODE, AskedFor::Downgrade)))),
+    (FIRST, Step::AskedAt(1, None)),
+    (SECOND, Step::IsWished(Mode::Shared, true)),
+    (SECOND, Step::IsFree(Mode::Shared, false)),
     (FIRST, Step::Held(Some(Mode::Sole))),
     (FIRST, Step::Downgrade),
+    (SECOND, Step::IsFree(Mode::Shared, true)),
     (SECOND, Step::Want(Mode::Shared, Wanted::Granted)),
     (FIRST, Step::Revokes(&[])),
     (SECOND, Step::Want(Mode::Sole, Wanted::Wait { holders: 1 })),
@@ -167,14 +190,21 @@ const UNTIL_50: LogTaken = LogTaken {
     expiry: 50,
 };
 
-static TAKEN: [(ServerId, Step); 8] = [
+const HELD_TO_50: LogHold = LogHold {
+    by: TAKER,
+    expiry: 50,
+};
+
+static TAKEN: [(ServerId, Step); 10] = [
     (TAKER, Step::TakeLog(DEAD, 10, 40, Ok(()))),
     (ServerId::HOST, Step::TakeLog(DEAD, 40, 70, Err(UNTIL_40))),
     (TAKER, Step::Extend(50)),
+    (TAKER, Step::LogHold(DEAD, Some(HELD_TO_50))),
     (ServerId::HOST, Step::TakeLog(DEAD, 50, 80, Err(UNTIL_50))),
     (TAKER, Step::TakeLog(DEAD, 50, 80, Ok(()))),
     (ServerId::HOST, Step::TakeLog(DEAD, 81, 111, Ok(()))),
     (DEAD, Step::Clear),
+    (TAKER, Step::LogHold(DEAD, None)),
     (TAKER, Step::TakeLog(DEAD, 81, 111, Ok(()))),
 ];
 
