@@ -24,7 +24,7 @@ use Rattle.disk_definitions.specs.Meets.{directory_blocks_in}
 use Rattle.disk_definitions.specs.Params.{param_bytes, param_fits, param_in}
 use Rattle.disk_definitions.specs.Regions.{region_of, sector_of}
 use Rattle.disk_definitions.specs.Replay.{is_log, replayed}
-use Rattle.disk_definitions.specs.Standing.{StandsFor}
+use Rattle.disk_definitions.specs.Standing.{HasNoDoubt, StandsByInodes}
 use Rattle.disk_definitions.specs.Store.{store_of}
 use Rattle.core_definitions.specs.Settings.{setting_of}
 use Rattle.core_definitions.specs.Scripts.{host_party}
@@ -107,14 +107,16 @@ image_opening p tree disk = record { tree = tree; dir_blocks = directory_blocks_
 abbrev pub image_start : List Line → Param → FileTree → List (ℕ × Block) → Start
 image_start script p tree disk = start_by script (image_opening p tree disk) (image_puts p disk)
 
--- the sectors of an image may be opened: these are its parameters, another run may follow, its blocks are whole, this is its disk once its logs are replayed, and that stands for the tree
+-- the sectors of an image may be opened: these are its parameters, another run may follow, its blocks are whole, this is its disk once its logs are replayed, and this is the tree that
+-- it is read as: it stands for it, each birth is the number of its inode, and no cell is in doubt
 pub record MayOpen (image : Sectors) (p : Param) (tree : FileTree) (disk : List (ℕ × Block)) : Type 0 where
   pub parameters : param_in (image (sector_of region.Param)) ≡ Some p
   pub run : IsTrue (param_fits (next_param p))
   pub ascending : Ascend disk
   pub blocks : All (λ block. length block ≡ SECTOR_BYTES) (values_of disk)
   pub replays : SameSectors (sectors_of disk) (replayed image)
-  pub stands : StandsFor (sectors_of disk) tree
+  pub stands : StandsByInodes (sectors_of disk) tree
+  pub sure : HasNoDoubt tree
 
 -- what a run may begin from
 pub data IsStart : Start → Type 0 where

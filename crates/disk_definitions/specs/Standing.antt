@@ -1,7 +1,12 @@
 -- A disk stands for a tree.
 use Rattle.std.specs.Prelude.{◌≡◌, ◌≤◌, ◌<◌, ℕ, ◌*◌, ◌^◌, Bool, true, Option, Some, None, List, [], ◌∷◌, is_some}
+use Rattle.std.specs.List.{slice_get}
 use Rattle.std.specs.Option.{option_and_then}
 use Rattle.frang_base.specs.declared.limits.TheConstants.{RUN_LINES_END, RUN_VERSIONS_MAX, SEGMENT_BLOCKS, SEGMENT_INODES, SMALL_BLOCK_SECTORS}
+use Rattle.tree_definitions.specs.declared.cells.Cell.{Cell}
+use Rattle.tree_definitions.specs.declared.cells.Cell.TheVariants as cell
+use Rattle.tree_definitions.specs.declared.node.Node.{Node}
+use Rattle.tree_definitions.specs.declared.node.Node.TheVariants.{Dir, File, Link}
 use Rattle.tree_definitions.specs.Tree.{FileTree, node_at}
 use Rattle.tree_definitions.specs.WellFormed.{IsWellFormed}
 use Rattle.disk_definitions.specs.declared.param.Param.{Param}
@@ -64,3 +69,23 @@ pub record StandsFor (sectors : Sectors) (tree : FileTree) : Type 0 where
   pub picture : Pictures (store_of param.segments sectors) (node_at tree) naming
   pub root : naming.inode 0 ≡ 0
   pub births : (b : ℕ) → is_some (node_at tree b) ≡ true → RUN_LINES_END ≤ b → naming.stamp b ≡ b
+
+-- ---- the tree that a disk is read as
+
+-- no cell is doubtful
+abbrev pub AllBytes : List Cell → Type 0
+AllBytes cells = (j : ℕ) (c : Cell) → slice_get cells j ≡ Some c → (v : ℕ) × (c ≡ cell.Byte v)
+
+-- no cell of the node is doubtful
+abbrev pub HasBytes : Node → Type 0
+HasBytes (Dir entries blocks) = Unit {0}
+HasBytes (File cells links when) = AllBytes cells
+HasBytes (Link target links) = Unit {0}
+
+-- no cell of the tree is doubtful
+abbrev pub HasNoDoubt : FileTree → Type 0
+HasNoDoubt tree = (b : ℕ) (node : Node) → node_at tree b ≡ Some node → HasBytes node
+
+-- the disk stands for the tree, and each birth is the number of its inode
+abbrev pub StandsByInodes : Sectors → FileTree → Type 0
+StandsByInodes sectors tree = (stands : StandsFor sectors tree) × ((b : ℕ) → is_some (node_at tree b) ≡ true → stands.naming.inode b ≡ b)

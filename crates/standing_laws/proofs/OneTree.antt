@@ -16,7 +16,8 @@ use Rattle.tree_laws.proofs.Places.{dir_is_some}
 use Rattle.disk_definitions.specs.Store.{Store, StoredNode, store_of}
 use Rattle.standing_laws.specs.ReadTree.{place_at, byte_at, entries_to, read_node, tree_in, read_tree}
 use Rattle.standing_laws.specs.Renaming.{CellsAgree, EntriesAgree, SameNode, IsRenaming}
-use Rattle.standing_laws.specs.Laws.{AllBytes, HasBytes, ReadingHasNoDoubt, StandsForOne}
+use Rattle.disk_definitions.specs.Standing.{AllBytes, HasBytes}
+use Rattle.standing_laws.specs.Laws.{ReadingHasNoDoubt, StandsForOne}
 use Rattle.standing_laws.proofs.NodesRead.{node_read}
 use Rattle.standing_laws.proofs.Pictured.{cells_of, cell_at, IsInRange}
 use Rattle.standing_laws.proofs.SoundStanding.{disk_range}

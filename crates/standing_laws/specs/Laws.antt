@@ -1,36 +1,13 @@
 -- The laws.
-use Rattle.std.specs.Prelude.{◌≡◌, ℕ, ◌*◌, true, Some, List, is_some}
-use Rattle.std.specs.List.{slice_get}
-use Rattle.tree_definitions.specs.declared.cells.Cell.{Cell}
-use Rattle.tree_definitions.specs.declared.cells.Cell.TheVariants as cell
-use Rattle.tree_definitions.specs.declared.node.Node.{Node}
-use Rattle.tree_definitions.specs.declared.node.Node.TheVariants.{Dir, File, Link}
-use Rattle.tree_definitions.specs.Tree.{FileTree, node_at}
+use Rattle.std.specs.Prelude.{◌≡◌, ℕ, ◌*◌, Some}
+use Rattle.tree_definitions.specs.Tree.{FileTree}
 use Rattle.disk_definitions.specs.declared.param.Param.{Param}
 use Rattle.disk_definitions.specs.Params.{param_in}
 use Rattle.sector_bytes.specs.Sectors.{Sectors}
-use Rattle.disk_definitions.specs.Standing.{StandsFor}
+use Rattle.disk_definitions.specs.Standing.{HasNoDoubt, StandsByInodes, StandsFor}
 use Rattle.standing_laws.specs.ReadTree.{read_tree}
 use Rattle.standing_laws.specs.Soundness.{IsSound}
 use Rattle.standing_laws.specs.Renaming.{IsRenaming}
-
--- no cell is doubtful
-abbrev pub AllBytes : List Cell → Type 0
-AllBytes cells = (j : ℕ) (c : Cell) → slice_get cells j ≡ Some c → (v : ℕ) × (c ≡ cell.Byte v)
-
--- no cell of the node is doubtful
-abbrev pub HasBytes : Node → Type 0
-HasBytes (Dir entries blocks) = Unit {0}
-HasBytes (File cells links when) = AllBytes cells
-HasBytes (Link target links) = Unit {0}
-
--- no cell of the tree is doubtful
-abbrev pub HasNoDoubt : FileTree → Type 0
-HasNoDoubt tree = (b : ℕ) (node : Node) → node_at tree b ≡ Some node → HasBytes node
-
--- the disk stands for the tree, and each birth is the number of its inode
-abbrev pub StandsByInodes : Sectors → FileTree → Type 0
-StandsByInodes sectors tree = (stands : StandsFor sectors tree) × ((b : ℕ) → is_some (node_at tree b) ≡ true → stands.naming.inode b ≡ b)
 
 -- a disk with these parameters is sound, by its own sectors
 abbrev pub IsSoundDisk : Param → Sectors → Type 0
