@@ -5,7 +5,8 @@ use Rattle.frang_base.specs.declared.change.Change.{Change}
 use Rattle.frang_base.specs.declared.change.Redo.{Redo}
 use Rattle.sector_bytes.specs.Blocks.{Block, version_of}
 use Rattle.sector_bytes.specs.Replays.{change_at, redo_all}
-use Rattle.core_definitions.specs.Recoveries.{named_sectors, replayed_block}
+use Rattle.disk_definitions.specs.ReplayedBlocks.{replayed_block}
+use Rattle.core_definitions.specs.Recoveries.{named_sectors}
 use Rattle.sector_world.specs.Guards.{IsBelow, NoneNames, to_replay}
 use Rattle.sector_world.specs.World.{World}
 

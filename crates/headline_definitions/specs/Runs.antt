@@ -1,19 +1,12 @@
--- What is witnessed along a run of the core, and what it leaves in an outside.
-use Rattle.std.specs.Prelude.{◌≡◌, ◌≤◌, ◌+◌, ◌-◌, ◌^◌, ℕ, min, true, Option, Some, None, List, [], ◌∷◌, ◌++◌}
-use Rattle.frang_outside.specs.declared.act.Act.{Act}
-use Rattle.frang_outside.specs.Outside.{State as Outside, NoneFell}
+-- What is witnessed along a run of the core.
+use Rattle.std.specs.Prelude.{ℕ, true, Option, Some, None, List, [], ◌∷◌, ◌++◌}
 use Rattle.sector_bytes.specs.SectorMaps.{value_at}
-use Rattle.sector_bytes.specs.Sectors.{SameSectors}
 use Rattle.core_definitions.specs.Cores.{Core}
 use Rattle.core_definitions.specs.Effects.{Says, deeds_of, deeds_of_put}
 use Rattle.core_definitions.specs.Events.{Event, Arrive, Heard, PutFailed}
 use Rattle.core_definitions.specs.Flights.{Flight}
-use Rattle.core_definitions.specs.Runs.{State as RunMoment, Step, Event_, Note, Run, Stays, Goes, acts_of, first_state}
-use Rattle.core_definitions.specs.Settings.{Setting}
-use Rattle.core_definitions.specs.Faults.{failed_calls}
+use Rattle.core_definitions.specs.Runs.{State as RunMoment, Step, Event_, Note, Run, Stays, Goes}
 use Rattle.headline_definitions.specs.Witnessed.{Witnessed, Acted, Broke, told}
-
--- ---- what is witnessed
 
 -- of a write that arrives: its deed, or that it failed and left the new sector
 abbrev pub witnessed_of_put : ℕ → Flight → Heard → List Witnessed
@@ -40,32 +33,3 @@ witnessed_at s v step = []
 abbrev pub witnessed_in : (s v : RunMoment) → Run s v → List Witnessed
 witnessed_in s v Stays = []
 witnessed_in s w (Goes {v = v} step run) = witnessed_at s v step ++ witnessed_in v w run
-
--- ---- the outside behind a run
-
--- what a run is of: its setting, and the outside as it was when the run began
-pub record Outset : Type 0 where
-  pub setting : Setting
-  pub outside : Outside
-
--- the first moment
-abbrev pub first_of : Outset → RunMoment
-first_of outset = first_state outset.setting outset.outside.sectors
-
--- a record with more behind it, where it is told
-abbrev pub told_behind : Option (List Act) → List Act → Option (List Act)
-told_behind None more = None
-told_behind (Some acts) more = Some (acts ++ more)
-
--- a count has risen by so many calls at least, or stands at its last value
-abbrev pub IsWithin : ℕ → ℕ → ℕ → Type 0
-IsWithin before calls now = min (before + calls) (2 ^ 64 - 1) ≤ now
-
--- a run from the outset comes to this moment, and leaves this outside: its sectors are the moment's; its record, where it is told, has the run's deeds behind
--- what it had; the failed calls of each party are within what its count has risen by; and no count fell
-pub record RunsTo (outset : Outset) (moment : RunMoment) (now : Outside) : Type 0 where
-  pub run : Run (first_of outset) moment
-  pub sectors : SameSectors now.sectors moment.disk
-  pub acts : now.acts ≡ told_behind outset.outside.acts (acts_of moment.record_)
-  pub faults : (party : ℕ) → IsWithin (outset.outside.faults party) (failed_calls (first_of outset) moment run party) (now.faults party)
-  pub fell : NoneFell outset.outside now

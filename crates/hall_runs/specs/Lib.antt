@@ -1,0 +1,5 @@
+pub mod Asking
+pub mod Gates
+pub mod Keeping
+pub mod Outsets
+pub mod Turning
