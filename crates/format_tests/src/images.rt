@@ -175,7 +175,7 @@ fn sectors_of_zeros(rt: HostRuntime) -> Result<(), Fail> {
     assert!(rt; fault_after(rt.alloc(), CLEAR_IN_NO_REGION)? == (536, 4));
     let mut image = fresh(rt.alloc())?;
     zero_from_to(&mut image, 24, 536);
-    assert!(rt; fault_in(rt.alloc(), &image) == (16, 7));
+    assert!(rt; fault_in(rt.alloc(), &image) == (16, 5));
     lay(&mut image, "16:01")?;
     assert!(rt; fault_in(rt.alloc(), &image) == (16, 7));
     Ok(())
