@@ -48,6 +48,8 @@ const DIRECTORIES: &str = "
 # A sector without entries outside its grammar, and one with an entry: that entry isn't there.
 s0.1 8:01                                    | 20 2 2 1 1 | s0.1:2
 s1 152:05                                    | 20 2 2 1 1 | i1:4 i2:4 s1:2
+# Of a sector outside its grammar no version is judged.
+s0.1 0:010002 8:01                           | 20 2 2 1 1 | s0.1:2
 # A name twice in a sector, and twice in a directory: it is the later one's fault.
 s0 296:020000000101'f; i0 16:05; i2 10:03    | 20 2 2 1 1 | s0:2
 s0 296:020000000101'f                        | 20 2 2 1 1 | i0:4 i2:4 s0:2

@@ -25,7 +25,7 @@ use Rattle.standing_laws.proofs.PicturedBlocks.{place_is, in_slot, few}
 use Rattle.standing_laws.proofs.StandingBlocks.{agree_same}
 use Rattle.report_definitions.specs.Sums.{first_below}
 use Rattle.report_definitions.specs.View.{View, names, IsReach}
-use Rattle.report_definitions.specs.Rules.{used, used_large, directory_block, is_new_in, is_new_name, names_well, entries_of, names_to, counts_agree, is_root_fine, is_count_fine, is_named_once, is_within, is_first_within, is_bit_fine, is_sector_fine, are_entries_fine, kind_at, is_use_fine_by, is_use_fine, are_parts_fine, is_block_fine, is_segment_fine, is_mark_fine}
+use Rattle.report_definitions.specs.Rules.{is_version_fine, used, used_large, directory_block, is_new_in, is_new_name, names_well, entries_of, names_to, counts_agree, is_root_fine, is_count_fine, is_named_once, is_within, is_first_within, is_bit_fine, is_sector_fine, are_entries_fine, kind_at, is_use_fine_by, is_use_fine, are_parts_fine, is_block_fine, is_segment_fine, is_mark_fine}
 use Rattle.report_definitions.proofs.SumLaws.{first_at, first_none}
 use Rattle.report_definitions.proofs.Fine.{IsFine}
 use Rattle.report_definitions.proofs.Reaching.{names_from, reached_used}
@@ -166,6 +166,10 @@ module _ (v : View) (r : ℕ → Bool) (reach : IsReach v.store r) (range : IsIn
           let y : is_used_for x.0.kind (s.use_of k) ≡ true = sym (ap (λ (b : ℕ). is_used_for x.0.kind (s.use_of b)) x.3) ∙ used_fits t x.0 q.0 x.1 x.2 in
           ap (is_use_fine_by s k) e ∙ ap (λ (o : Option StoredNode). is_used_for (kind_at o) (s.use_of k)) x.1 ∙ y
 
+  or_second : (a b : Bool) → b ≡ true → (a || b) ≡ true
+  or_second true b h = refl
+  or_second false b h = h
+
   parts_fine : (k : ℕ) → k < m → (u : Use) → s.use_of k ≡ u → are_parts_fine v k u ≡ true
   parts_fine k l Fresh e = refl
   parts_fine k l Bytes e = refl
@@ -176,7 +180,7 @@ module _ (v : View) (r : ℕ → Bool) (reach : IsReach v.store r) (range : IsIn
       (all_from 8 (λ p. v.is_directory k p && v.is_recent k p) (λ p w. (let q = part_fit k p l w meta in and_from (v.is_directory k p) (v.is_recent k p) q.0 q.1))) h
   parts_fine k l OfEntries e =
       let meta : IsMetadata (s.use_of k) = subst IsMetadata (sym e) tt in
-      all_from 8 (v.is_recent k) (λ p w. (part_fit k p l w meta).1)
+      all_from 8 (is_version_fine v k) (λ p w. or_second (not (v.is_directory k p)) (v.is_recent k p) (part_fit k p l w meta).1)
 
   segment_fine : (k : ℕ) → k < v.segments → is_segment_fine v r k ≡ true
   segment_fine k l =

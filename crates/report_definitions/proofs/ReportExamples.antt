@@ -170,6 +170,10 @@ a_former_directorys_block_without_user = refl
 a_version_too_great : are_parts_fine (view two) 0 OfEntries ≡ false
 a_version_too_great = refl
 
+-- of a sector that isn't in its grammar no version is judged
+no_version_outside_the_grammar : are_parts_fine (record (view two) { is_directory = λ b p. nat_lt p 7 }) 0 OfEntries ≡ true
+no_version_outside_the_grammar = refl
+
 -- ---- the list
 
 in_order_of_sectors : gathered 3 (λ i. fault_unless (i == 1) i 4) ≡ (0, 4) ∷ (2, 4) ∷ []

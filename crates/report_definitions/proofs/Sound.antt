@@ -20,7 +20,7 @@ use Rattle.standing_laws.proofs.Pictured.{IsInRange, read_file, read_dir, read_l
 use Rattle.standing_laws.proofs.PicturedBlocks.{place_is, in_slot, slot_in, few}
 use Rattle.report_definitions.specs.Sums.{first_below}
 use Rattle.report_definitions.specs.View.{View, entry_of, named_by, names, leads, IsReach}
-use Rattle.report_definitions.specs.Rules.{used, used_large, directory_block, is_new_in, is_new_name, names_well, entries_of, names_by, names_to, counts_agree, is_within, is_first_within, is_bit_fine, kind_at, is_use_fine_by, is_use_fine, are_parts_fine, is_block_fine}
+use Rattle.report_definitions.specs.Rules.{used, used_large, directory_block, is_new_in, is_new_name, names_well, entries_of, names_by, names_to, counts_agree, is_within, is_first_within, is_bit_fine, kind_at, is_version_fine, is_use_fine_by, is_use_fine, are_parts_fine, is_block_fine}
 use Rattle.report_definitions.proofs.SumLaws.{sum_at, count_some, sum_zero, count_zero, first_at, first_some}
 use Rattle.report_definitions.proofs.Fine.{IsFine}
 use Rattle.report_definitions.proofs.Reaching.{named_at, named_entry, last_step, reached_used}
@@ -44,13 +44,13 @@ cleared_of v k Bytes h = refl
 cleared_of v k Empty h = (and_parts (all_below 8 (λ p. v.is_directory k p && v.is_recent k p)) (all_below 56 (λ q. not (is_some (v.store.place k q)))) h).1
 cleared_of v k OfEntries h = refl
 
-recent_of : (v : View) (k : ℕ) (u : Use) → are_parts_fine v k u ≡ true → IsMetadata u → (p : ℕ) → p < 8 → v.is_recent k p ≡ true
-recent_of v k Fresh h m p l = absurd m
-recent_of v k Bytes h m p l = absurd m
-recent_of v k Empty h m p l =
+recent_of : (v : View) (k : ℕ) (u : Use) → are_parts_fine v k u ≡ true → IsMetadata u → (p : ℕ) → p < 8 → v.is_directory k p ≡ true → v.is_recent k p ≡ true
+recent_of v k Fresh h m p l d = absurd m
+recent_of v k Bytes h m p l d = absurd m
+recent_of v k Empty h m p l d =
     let a = (and_parts (all_below 8 (λ p. v.is_directory k p && v.is_recent k p)) (all_below 56 (λ q. not (is_some (v.store.place k q)))) h).0 in
     (and_parts (v.is_directory k p) (v.is_recent k p) (all_at 8 (λ p. v.is_directory k p && v.is_recent k p) a p l)).1
-recent_of v k OfEntries h m p l = all_at 8 (v.is_recent k) h p l
+recent_of v k OfEntries h m p l d = sym (ap (λ b. not b || v.is_recent k p) d) ∙ all_at 8 (is_version_fine v k) h p l
 
 module _ (v : View) (r : ℕ → Bool) (reach : IsReach v.store r) (range : IsInRange v.segments v.store) (shapes : (i : ℕ) (x : StoredNode) → v.store.inode i ≡ Some x → Shape x) (some : 1 ≤ v.segments) (long : (i : ℕ) (x : StoredNode) → v.store.inode i ≡ Some x → x.kind ≡ 3 → length x.target ≡ x.size) (f : IsFine v r) where
   abbrev s : Store
@@ -264,7 +264,7 @@ module _ (v : View) (r : ℕ → Bool) (reach : IsReach v.store r) (range : IsIn
 
   -- a part of a block that is or was a directory's is in the grammar
   pub part_fits : (k p : ℕ) → k < m → p < 8 → IsMetadata (s.use_of k) → (v.is_directory k p ≡ true) × (v.is_recent k p ≡ true)
-  part_fits k p l w h = (directory (s.use_of k) refl h (small_fine k l).1, recent_of v k (s.use_of k) (small_fine k l).1 h p w)
+  part_fits k p l w h = (own, recent_of v k (s.use_of k) (small_fine k l).1 h p w own)
     where
       in_use_by : s.use_of k ≡ OfEntries → v.is_directory k p ≡ true
       in_use_by e = ⊎_elim
@@ -289,6 +289,9 @@ module _ (v : View) (r : ℕ → Bool) (reach : IsReach v.store r) (range : IsIn
           let c = (and_parts (all_below 8 (λ p. v.is_directory k p && v.is_recent k p)) (all_below 56 (λ q. not (is_some (s.place k q)))) b).0 in
           (and_parts (v.is_directory k p) (v.is_recent k p) (all_at 8 (λ p. v.is_directory k p && v.is_recent k p) c p w)).0
       directory OfEntries e h a = in_use_by e
+
+      own : v.is_directory k p ≡ true
+      own = directory (s.use_of k) refl h (small_fine k l).1
 
   -- ---- counts
 

@@ -131,13 +131,17 @@ is_use_fine_by s k (Some t) = is_used_for (kind_at (s.inode (t / INODE_BLOCKS_MA
 abbrev pub is_use_fine : View → (ℕ → Bool) → ℕ → Bool
 is_use_fine v reached k = is_use_fine_by v.store k (first_below (SEGMENT_BLOCKS * v.segments) (λ t. holds (used v reached t) k))
 
--- the sectors of a block that was a directory's are those of one without entries, and the versions of its sectors, or of those of a directory's
--- block, aren't too great
+-- the version of a part that is in the grammar of directories isn't too great
+abbrev pub is_version_fine : View → ℕ → ℕ → Bool
+is_version_fine v k p = not (v.is_directory k p) || v.is_recent k p
+
+-- the sectors of a block that was a directory's are those of one without entries, with versions that aren't too great; nor are the versions of those of a
+-- directory's block too great
 abbrev pub are_parts_fine : View → ℕ → Use → Bool
 are_parts_fine v k Fresh = true
 are_parts_fine v k Bytes = true
 are_parts_fine v k Empty = all_below SMALL_BLOCK_SECTORS (λ p. v.is_directory k p && v.is_recent k p) && all_below BLOCK_ENTRIES (λ q. not (is_some (v.store.place k q)))
-are_parts_fine v k OfEntries = all_below SMALL_BLOCK_SECTORS (v.is_recent k)
+are_parts_fine v k OfEntries = all_below SMALL_BLOCK_SECTORS (is_version_fine v k)
 
 abbrev pub is_block_fine : View → (ℕ → Bool) → ℕ → Bool
 is_block_fine v reached k = is_use_fine v reached k && are_parts_fine v k (v.store.use_of k)

@@ -1,8 +1,9 @@
 // Whether the state of a small block agrees with its use, and its sectors fit.
-ghost use Rattle.std.specs.Prelude.{◌≡◌, ◌≤◌, ◌<◌, ◌*◌};
+ghost use Rattle.std.specs.Prelude.{◌≡◌, ◌≤◌, ◌<◌, ◌*◌, ◌||◌, not, is_some};
 ghost use Rattle.sector_bytes.specs.Sectors.{sectors_of};
 ghost use Rattle.disk_definitions.specs.declared.region.Region.TheVariants as region;
 ghost use Rattle.disk_definitions.specs.Regions.{sector_of};
+ghost use Rattle.disk_definitions.specs.Store.{directory_at};
 ghost use Rattle.standing_laws.specs.Below.{all_below};
 ghost use Rattle.disk_reading.specs.Marks.{flag_at};
 ghost use Rattle.disk_reading.specs.Seen.{store_in, use_of_state};
@@ -17,7 +18,7 @@ use byteorder::{ByteOrder, LittleEndian};
 use disk_reading::DecodedDisk;
 use disk_reading::grammar::parts_fit;
 use disk_reading::marks::{has_no_entries, is_unused, is_used_for};
-use disk_reading::sectors::{use_of, used_inode};
+use disk_reading::sectors::{self, use_of, used_inode};
 use frang_base::limits::{
     INODE_BLOCKS_MAX, KIND_FREE, SEGMENT_BLOCKS, SEGMENTS_MAX, SMALL_BLOCK_SECTORS,
 };
@@ -48,21 +49,21 @@ fn is_use_fine(disk: &DecodedDisk<'_>, segments: u32, tables: &Tables, block: u3
     }
 }
 
-// Whether the version of a part of a block isn't too great.
-fn is_recent(disk: &DecodedDisk<'_>, most: u64, block: u32, part: u8) -> bool
-    ensures { result ≡ is_recent_at most (sectors_of disk.now) (sector_of (region.Small block part)) }
+// Whether the version of a part of a block isn't too great, where the part is in the grammar of directories.
+fn is_version_fine(disk: &DecodedDisk<'_>, most: u64, block: u32, part: u8) -> bool
+    ensures { result ≡ (not (is_some (directory_at (sectors_of disk.now) block part)) || is_recent_at most (sectors_of disk.now) (sector_of (region.Small block part))) }
 {
     let bytes = disk.get(sector_of(&Region::Small { block, part }));
-    LittleEndian::read_u64(&bytes) <= most
+    !sectors::directory_at(disk, block, part).is_some() || LittleEndian::read_u64(&bytes) <= most
 }
 
 #[tactic(auto, using(standing_laws::proofs::Bounded::all_more))]
-fn parts_recent(disk: &DecodedDisk<'_>, most: u64, block: u32) -> bool
-    ensures { result ≡ all_below SMALL_BLOCK_SECTORS (λ p. is_recent_at most (sectors_of disk.now) (sector_of (region.Small block p))) }
+fn versions_fine(disk: &DecodedDisk<'_>, most: u64, block: u32) -> bool
+    ensures { result ≡ all_below SMALL_BLOCK_SECTORS (λ p. not (is_some (directory_at (sectors_of disk.now) block p)) || is_recent_at most (sectors_of disk.now) (sector_of (region.Small block p))) }
 {
     let mut all = true;
     for p in 0..SMALL_BLOCK_SECTORS as u8 {
-        all = all && is_recent(disk, most, block, p);
+        all = all && is_version_fine(disk, most, block, p);
     }
     all
 }
@@ -85,7 +86,7 @@ fn are_parts_fine(
         BlockState::FormerDirectory => {
             parts_fit(disk, most, block) && has_no_entries(disk, segments, block)
         }
-        BlockState::Directory => parts_recent(disk, most, block),
+        BlockState::Directory => versions_fine(disk, most, block),
     }
 }
 

@@ -1,4 +1,4 @@
--- The parts of a block that was a directory's.
+-- The parts of a block that was a directory's, and the versions of those of a directory's block.
 use Rattle.std.proofs.Common.{not, is_some, sym, ◌∙◌, ap}
 use Rattle.sector_bytes.specs.Sectors.{sectors_of}
 use Rattle.standing_laws.specs.Below.{all_below}
@@ -23,3 +23,6 @@ returns-else-parts_fit c =
     let y = all_below 56 (λ q. not (is_some ((store_in c.args.segments c.args.disk.now).place c.args.block q))) in
     and_else x y c.parts_fit.result c.parts_fit.ensures c.if-parts_fit.false ∙ cleared_is c.args.most c.args.segments c.args.disk.now c.args.block
     ∙ ap (λ (b : BlockState). are_parts_fine (view_in c.args.most c.args.segments c.args.disk.now) c.args.block (use_of_state b)) (sym c.in-FormerDirectory.is)
+
+pub returns-in-Directory : goal.returns-in-Directory
+returns-in-Directory c = c.versions_fine.ensures ∙ ap (λ (b : BlockState). are_parts_fine (view_in c.args.most c.args.segments c.args.disk.now) c.args.block (use_of_state b)) (sym c.in-Directory.is)
