@@ -1,0 +1,2 @@
+mod Flying
+mod Moving
