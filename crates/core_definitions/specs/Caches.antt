@@ -3,7 +3,7 @@ use Rattle.std.specs.Prelude.{if◌then◌else◌, Some, None}
 use Rattle.std.specs.List.{filter_map}
 use Rattle.cache_definitions.specs.Caches.{Cache}
 use Rattle.disk_definitions.specs.Written.{Cached}
-use Rattle.core_definitions.specs.Sets.{LockSet, has_lock}
+use Rattle.set_definitions.specs.Sets.{LockSet, has_lock}
 
 -- the cached sectors whose cover is in the set
 abbrev pub usable : LockSet → Cache → Cached

@@ -1,5 +1,4 @@
 pub mod Settings
-pub mod Sets
 pub mod Rings
 pub mod Caches
 pub mod Logs

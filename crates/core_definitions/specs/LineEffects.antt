@@ -27,12 +27,13 @@ use Rattle.sector_bytes.specs.SectorMaps.{value_at, with_value}
 use Rattle.disk_definitions.specs.Regions.{sector_of}
 use Rattle.disk_definitions.specs.declared.region.Region.TheVariants as region
 use Rattle.core_definitions.specs.Settings.{LogRules, lease_to}
-use Rattle.core_definitions.specs.Sets.{LockSet, first_set, joined_all}
+use Rattle.set_definitions.specs.Sets.{first_set, joined_all}
 use Rattle.core_definitions.specs.Rings.{appended_some}
 use Rattle.cache_definitions.specs.Caches.{Cache, CachedSector, clean, dirty, each_cached, forgotten}
 use Rattle.core_definitions.specs.Logs.{end_of}
 use Rattle.core_definitions.specs.Plans.{BytesSet, Outcome}
-use Rattle.core_definitions.specs.Lines.{Seen, Stage, Asking, Fetching, Moving, Stopping, Growing, Clearing, Finishing, Under, operation_of, under_at_first}
+use Rattle.set_definitions.specs.Seen.{SeenSectors}
+use Rattle.core_definitions.specs.Lines.{Stage, Asking, Fetching, Moving, Stopping, Growing, Clearing, Finishing, Under, operation_of, under_at_first}
 use Rattle.core_definitions.specs.Flights.{Flight, Flights, InPlace, OfLog, OfRecovery, Purpose, each_of_server}
 use Rattle.core_definitions.specs.Scripts.{host_party}
 use Rattle.core_definitions.specs.Servers.{Off, Up, Still, Server, answer_at_first, first_server, is_in_mount, is_off, is_up}
@@ -101,7 +102,7 @@ fetch_failed c a = if is_off (c.servers a).phase then with_server c a (with_unde
 abbrev pub set_anew : Under → Under
 set_anew under = record under { set = first_set; seen = [] }
 
-abbrev pub set_grown : List Lock → Seen → Under → Under
+abbrev pub set_grown : List Lock → SeenSectors → Under → Under
 set_grown needs seen under = record under { set = joined_all under.set needs; seen = seen }
 
 abbrev pub again_by : LogRules → Option Stage → Server → Server

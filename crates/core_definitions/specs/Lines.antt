@@ -1,7 +1,6 @@
 -- The line under way of a server, and how far a line over paths has come.
-use Rattle.std.specs.Prelude.{ℕ, ◌==◌, Bool, true, false, not, ◌&&◌, if◌then◌else◌, Option, Some, None, is_some, List, [], ◌∷◌, ◌++◌, map, filter, fold}
+use Rattle.std.specs.Prelude.{ℕ, Bool, false, not, if◌then◌else◌, Option, Some, None, is_some, List, [], ◌∷◌, map, filter}
 use Rattle.std.specs.List.{list_any}
-use Rattle.std.specs.Option.{option_map, unwrap_or}
 use Rattle.frang_base.specs.declared.lock.LockId.{LockId}
 use Rattle.frang_base.specs.declared.lock.LockId.TheVariants.{Log, Segment, Node}
 use Rattle.frang_base.specs.declared.lock.Mode.{Mode}
@@ -13,31 +12,26 @@ use Rattle.frang_base.specs.declared.reply.Reply.{Reply}
 use Rattle.frang_base.specs.declared.script.Line.{Line}
 use Rattle.tree_definitions.specs.Apply.{is_path_op}
 use Rattle.lock_definitions.specs.Locks.{Locks}
-use Rattle.sector_bytes.specs.Blocks.{Block, version_of}
 use Rattle.sector_bytes.specs.SectorMaps.{value_at}
 use Rattle.disk_definitions.specs.Regions.{sector_of}
 use Rattle.disk_definitions.specs.declared.region.Region.TheVariants as region
-use Rattle.disk_definitions.specs.Ask.{Ask, Met, Sector, number_of}
+use Rattle.disk_definitions.specs.Ask.{Ask, Met, number_of}
 use Rattle.disk_definitions.specs.Ask.Met.{Needs, Has}
 use Rattle.disk_definitions.specs.Plans.{Lock, Plan}
 use Rattle.disk_definitions.specs.Plans.Plan.{Lacks, Clears, Finishes}
-use Rattle.disk_definitions.specs.Written.{Cached}
 use Rattle.cache_definitions.specs.Caches.{Cache}
 use Rattle.core_definitions.specs.Logs.{SlotsRead}
 use Rattle.core_definitions.specs.Plans.{Sight, Outcome, clear_needs, cover_of, examined_in, finish_needs, nodes_looked_at, outcome_of, planned, program_of, sight_of}
-use Rattle.core_definitions.specs.Sets.{LockSet, first_set, has_lock, lacks, next_segment, segments_in, to_ask}
+use Rattle.set_definitions.specs.Sets.{LockSet, first_set, has_lock, lacks, next_segment, segments_in, to_ask}
 use Rattle.core_definitions.specs.Settings.{Setting}
-
--- sectors with their versions, in the order in which they were first seen
-abbrev pub Seen : Type 0
-Seen = List (ℕ × ℕ)
+use Rattle.set_definitions.specs.Seen.{SeenSectors, Comparison, HasMoved, HasStopped, HasGoneThrough, compared, seen_more}
 
 -- the line, and the answer that is fixed for it if one is; its set and what it has seen; for a mount the slots of its log that were read, and whether a get failed under it
 pub record Under : Type 0 where
   pub line : Line
   pub fixed : Option Reply
   pub set : LockSet
-  pub seen : Seen
+  pub seen : SeenSectors
   pub slots : SlotsRead
   pub get_failed : Bool
 
@@ -53,32 +47,6 @@ set_at_first operation = if is_path_op operation then first_set else []
 abbrev pub under_at_first : Line → Op → Option Reply → Under
 under_at_first line operation fixed = record { line = line; fixed = fixed; set = set_at_first operation; seen = []; slots = []; get_failed = false }
 
--- ---- what was seen
-
--- the seen sectors are compared in their order, as far as they are cached under a cover in the set: the first with another version than the one seen has moved and ends it
-pub data Comparison : Type 0 where
-  HasMoved : Comparison
-  HasStopped : Comparison
-  HasGoneThrough : Comparison
-
-abbrev pub compared_at : ℕ → Option Block → Comparison → Comparison
-compared_at version None rest = HasStopped
-compared_at version (Some block) rest = if version_of block == version then rest else HasMoved
-
-abbrev pub compared : Seen → Cached → Comparison
-compared [] cached = HasGoneThrough
-compared (seen ∷ others) cached = compared_at seen.1 (value_at cached seen.0) (compared others cached)
-
-abbrev pub is_seen : Seen → ℕ → Bool
-is_seen seen sector = list_any (λ one. one.0 == sector) seen
-
--- a sector that isn't seen yet is seen, behind the others, with its cached version
-abbrev pub with_seen : Cached → Seen → ℕ → Seen
-with_seen cached seen sector = if is_seen seen sector then seen else seen ++ (sector, unwrap_or (option_map version_of (value_at cached sector)) 0) ∷ []
-
-abbrev pub seen_more : Cached → Seen → List ℕ → Seen
-seen_more cached seen sectors = fold (with_seen cached) seen sectors
-
 -- ---- how far it has come
 
 -- the first of these that fits
@@ -87,7 +55,7 @@ pub data Stage : Type 0 where
   Fetching : (needs : List (ℕ × LockId)) → Stage  -- bitmaps of the set lack, or one sector that the plan needs; each with its cover
   Moving : Stage  -- a seen sector has moved
   Stopping : Stage  -- the comparison hasn't gone through; it never comes to this
-  Growing : (needs : List Lock) (seen : Seen) → Stage  -- the set lacks one of these locks; and what is seen then
+  Growing : (needs : List Lock) (seen : SeenSectors) → Stage  -- the set lacks one of these locks; and what is seen then
   Clearing : (block : ℕ) → Stage  -- the plan is `Clear`
   Finishing : (outcome : Outcome) → Stage  -- the plan is `Done`
 
@@ -116,16 +84,16 @@ once_through HasStopped stage = Stopping
 once_through HasMoved stage = Moving
 
 -- the set grows where it lacks one of the locks that the plan finds
-abbrev pub or_grown : LockSet → List Lock → Seen → Stage → Stage
+abbrev pub or_grown : LockSet → List Lock → SeenSectors → Stage → Stage
 or_grown set needs seen stage = if list_any (lacks set) needs then Growing needs seen else stage
 
 -- a sector that the plan needs, with its cover: it is fetched where the cover is in the set; else the cover is found
-abbrev pub needing : Comparison → LockSet → Seen → ℕ → LockId → Stage
+abbrev pub needing : Comparison → LockSet → SeenSectors → ℕ → LockId → Stage
 needing comparison set seen sector cover =
     if has_lock set cover then Fetching ((sector, cover) ∷ []) else once_through comparison (Growing ((cover, needed_mode cover) ∷ []) seen)
 
 -- by what the plan comes to, where it looked at the inodes of these nodes; the next segment to join is this one
-abbrev pub stage_by : Setting → Line → Op → Sight → LockSet → Option ℕ → Comparison → Seen → List ℕ → Met Plan → Stage
+abbrev pub stage_by : Setting → Line → Op → Sight → LockSet → Option ℕ → Comparison → SeenSectors → List ℕ → Met Plan → Stage
 stage_by setting line operation sight set next comparison seen nodes (Needs sector) = needing comparison set seen (number_of sector) (cover_of nodes sight sector)
 stage_by setting line operation sight set next comparison seen nodes (Has Lacks) = once_through comparison (Growing (sole_segment next) seen)
 stage_by setting line operation sight set next comparison seen nodes (Has (Clears block locks)) =

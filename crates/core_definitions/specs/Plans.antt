@@ -31,7 +31,7 @@ use Rattle.disk_definitions.specs.Numbered.{moves_of}
 use Rattle.disk_definitions.specs.Lines.{plan_of_line, resolved}
 use Rattle.cache_definitions.specs.Caches.{Cache}
 use Rattle.core_definitions.specs.Caches.{usable}
-use Rattle.core_definitions.specs.Sets.{LockSet, has_lock, segments_in}
+use Rattle.set_definitions.specs.Sets.{LockSet, has_lock, segments_in}
 use Rattle.core_definitions.specs.Settings.{Setting}
 
 -- ---- what a plan is made over

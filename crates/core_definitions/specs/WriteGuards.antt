@@ -9,7 +9,7 @@ use Rattle.lock_definitions.specs.Locks.{held}
 use Rattle.lock_definitions.specs.Calls.{asked_for, serves}
 use Rattle.sector_bytes.specs.SectorMaps.{value_at}
 use Rattle.core_definitions.specs.Settings.{lease_to}
-use Rattle.core_definitions.specs.Sets.{LockSet, has_lock, held_set}
+use Rattle.set_definitions.specs.Sets.{LockSet, has_lock, held_set}
 use Rattle.core_definitions.specs.Rings.{is_all_reached}
 use Rattle.cache_definitions.specs.Caches.{any_cached, is_dirty_under}
 use Rattle.core_definitions.specs.Lines.{Under}

@@ -26,7 +26,8 @@ use Rattle.disk_definitions.specs.Inodes.{inode_in}
 use Rattle.disk_definitions.specs.Edits.{Edit}
 use Rattle.tree_definitions.specs.declared.node.Node.TheVariants.{File}
 use Rattle.core_definitions.specs.Cores.{stage}
-use Rattle.core_definitions.specs.Lines.{Seen, Stage, Clearing, Fetching, Finishing, Growing}
+use Rattle.set_definitions.specs.Seen.{SeenSectors}
+use Rattle.core_definitions.specs.Lines.{Stage, Clearing, Fetching, Finishing, Growing}
 use Rattle.core_definitions.specs.Plans.{Outcome, outcome_of, sight_of}
 use Rattle.core_definitions.specs.Servers.{Server}
 use Rattle.core_definitions.specs.Events.{Event, Begin, Ask, Fetch, Again, Clear, Commit, Answer, Issue, Arrive, HostLine}
@@ -100,7 +101,7 @@ abbrev pub made_locks_found : List (LockId × Mode)
 made_locks_found =
     (Node 0, Shared) ∷ (Node 1, Shared) ∷ (Node 0, Shared) ∷ (Node 1, Shared) ∷ (Node 2, Shared) ∷ (Node 1, Sole) ∷ (Node 2, Sole) ∷ (Segment 0, Sole) ∷ (Segment 0, Sole) ∷ []
 
-abbrev pub made_seen : Seen
+abbrev pub made_seen : SeenSectors
 made_seen = (10737418240, 2) ∷ (12884901888, 1) ∷ (10737418241, 1) ∷ (4294967296, 2) ∷ (10737418242, 0) ∷ []
 
 abbrev pub locks_found : Option Stage

@@ -19,7 +19,7 @@ use Rattle.cache_definitions.specs.Caches.{Cache, clean}
 use Rattle.core_definitions.specs.Flights.{InPlace}
 use Rattle.core_definitions.specs.Lines.{under_at_first}
 use Rattle.core_definitions.specs.Servers.{Server}
-use Rattle.core_definitions.specs.Sets.{LockSet}
+use Rattle.set_definitions.specs.Sets.{LockSet}
 use Rattle.core_definitions.specs.Effects.{after}
 use Rattle.core_definitions.specs.Events.{Clear, Commit, Issue, Arrive, Nothing, Written}
 use Rattle.core_definitions.specs.Runs.{State, next}

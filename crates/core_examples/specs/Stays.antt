@@ -15,7 +15,7 @@ use Rattle.sector_bytes.specs.Blocks.{Block}
 use Rattle.sector_bytes.specs.SectorMaps.{value_at}
 use Rattle.tree_definitions.specs.Apply.{is_path_op}
 use Rattle.core_definitions.specs.Settings.{Setting}
-use Rattle.core_definitions.specs.Sets.{LockSet, has_lock, next_segment, segments_in, to_ask}
+use Rattle.set_definitions.specs.Sets.{LockSet, has_lock, next_segment, segments_in, to_ask}
 use Rattle.cache_definitions.specs.Caches.{Cache, CachedSector, cleaned, without_dirt}
 use Rattle.core_definitions.specs.Caches.{usable}
 use Rattle.core_definitions.specs.Plans.{sight_over}

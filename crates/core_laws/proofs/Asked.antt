@@ -19,10 +19,11 @@ use Rattle.disk_definitions.specs.Plans.{Lock, Plan}
 use Rattle.disk_definitions.specs.Plans.Plan.{Lacks, Clears, Finishes}
 use Rattle.tree_definitions.specs.Apply.{is_path_op}
 use Rattle.cache_definitions.specs.Caches.{Cache}
-use Rattle.core_definitions.specs.Lines.{Comparison, HasMoved, HasStopped, HasGoneThrough, Seen, Stage, Asking, Fetching, Moving, Stopping, Growing, Clearing, Finishing, Under, compared, missing_bitmaps, needed_mode, needing, once_through, operation_of, or_grown, seen_more, sole_segment, stage_asked, stage_by, stage_held, stage_over}
+use Rattle.set_definitions.specs.Seen.{Comparison, HasMoved, HasStopped, HasGoneThrough, SeenSectors, compared, seen_more}
+use Rattle.core_definitions.specs.Lines.{Stage, Asking, Fetching, Moving, Stopping, Growing, Clearing, Finishing, Under, missing_bitmaps, needed_mode, needing, once_through, operation_of, or_grown, sole_segment, stage_asked, stage_by, stage_held, stage_over}
 use Rattle.core_definitions.specs.Plans.{Sight, clear_needs, examined_in, finish_needs, nodes_looked_at, outcome_of, planned, program_of, sight_of}
 use Rattle.core_definitions.specs.Servers.{Server, asked_by, asks, is_open, is_up, stage_of, stage_under, stage_with}
-use Rattle.core_definitions.specs.Sets.{LockSet, has_lock, lacks, next_segment, to_ask}
+use Rattle.set_definitions.specs.Sets.{LockSet, has_lock, lacks, next_segment, to_ask}
 use Rattle.core_definitions.specs.Settings.{Setting}
 
 -- what a server has and wishes, by lock
@@ -65,21 +66,21 @@ through_past HasGoneThrough stage p = p
 through_past HasStopped stage p = tt
 through_past HasMoved stage p = tt
 
-grown_past : (set : LockSet) (needs : List Lock) (seen : Seen) (stage : Stage) → IsPast stage → IsPast (or_grown set needs seen stage)
+grown_past : (set : LockSet) (needs : List Lock) (seen : SeenSectors) (stage : Stage) → IsPast stage → IsPast (or_grown set needs seen stage)
 grown_past set needs seen stage p = go (list_any (lacks set) needs)
   where
     go : (b : Bool) → IsPast (if b then Growing needs seen else stage)
     go true = tt
     go false = p
 
-needing_past : (comparison : Comparison) (set : LockSet) (seen : Seen) (sector : ℕ) (cover : LockId) → IsPast (needing comparison set seen sector cover)
+needing_past : (comparison : Comparison) (set : LockSet) (seen : SeenSectors) (sector : ℕ) (cover : LockId) → IsPast (needing comparison set seen sector cover)
 needing_past comparison set seen sector cover = go (has_lock set cover)
   where
     go : (b : Bool) → IsPast (if b then Fetching ((sector, cover) ∷ []) else once_through comparison (Growing ((cover, needed_mode cover) ∷ []) seen))
     go true = tt
     go false = through_past comparison (Growing ((cover, needed_mode cover) ∷ []) seen) tt
 
-by_past : (setting : Setting) (line : Line) (operation : Op) (sight : Sight) (set : LockSet) (next : Option ℕ) (comparison : Comparison) (seen : Seen) (nodes : List ℕ) (plan : Met Plan) →
+by_past : (setting : Setting) (line : Line) (operation : Op) (sight : Sight) (set : LockSet) (next : Option ℕ) (comparison : Comparison) (seen : SeenSectors) (nodes : List ℕ) (plan : Met Plan) →
     IsPast (stage_by setting line operation sight set next comparison seen nodes plan)
 by_past setting line operation sight set next comparison seen nodes (Needs sector) = needing_past comparison set seen _ _
 by_past setting line operation sight set next comparison seen nodes (Has Lacks) = through_past comparison (Growing (sole_segment next) seen) tt

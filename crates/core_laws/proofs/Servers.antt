@@ -30,7 +30,7 @@ use Rattle.core_definitions.specs.Lines.{Stage, Asking, Fetching, Moving, Stoppi
 use Rattle.core_definitions.specs.Plans.{Outcome}
 use Rattle.core_definitions.specs.Recoveries.{Recovery}
 use Rattle.core_definitions.specs.Servers.{Fate, Server, is_off, is_up, wanting_all, wanting_all_up}
-use Rattle.core_definitions.specs.Sets.{LockSet, first_set, joined, joined_all, mode_in, with_mode}
+use Rattle.set_definitions.specs.Sets.{LockSet, first_set, joined, joined_all, mode_in, with_mode}
 use Rattle.core_definitions.specs.Trees.{block_sectors}
 use Rattle.core_definitions.specs.Cores.{Core}
 use Rattle.core_definitions.specs.LineEffects.{again_by, answered_by, answered_open, begun_line, begun_with, cache_after, cached_under, cleared_at, committed_by, cover_needed, fetched_by, refused_under, ring_after, sector_after, set_grown, slot_read, with_bytes, with_under, zeroed}

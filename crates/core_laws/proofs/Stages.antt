@@ -25,10 +25,11 @@ use Rattle.sector_bytes.specs.Blocks.{version_of}
 use Rattle.sector_bytes.specs.SectorMaps.{value_at}
 use Rattle.tree_definitions.specs.Apply.{is_path_op}
 use Rattle.cache_definitions.specs.Caches.{Cache}
-use Rattle.core_definitions.specs.Lines.{Comparison, HasMoved, HasStopped, HasGoneThrough, Seen, Stage, Asking, Fetching, Moving, Stopping, Growing, Clearing, Finishing, Under, bitmap_sector, compared, is_seen, missing_bitmaps, needed_mode, needing, once_through, operation_of, or_grown, seen_more, sole_segment, stage_asked, stage_by, stage_held, stage_over, with_seen}
+use Rattle.set_definitions.specs.Seen.{Comparison, HasMoved, HasStopped, HasGoneThrough, SeenSectors, compared, is_seen, seen_more, with_seen}
+use Rattle.core_definitions.specs.Lines.{Stage, Asking, Fetching, Moving, Stopping, Growing, Clearing, Finishing, Under, bitmap_sector, missing_bitmaps, needed_mode, needing, once_through, operation_of, or_grown, sole_segment, stage_asked, stage_by, stage_held, stage_over}
 use Rattle.core_definitions.specs.Plans.{Sight, clear_needs, examined_in, finish_needs, nodes_looked_at, outcome_of, planned, program_of, sight_of}
 use Rattle.core_definitions.specs.Servers.{Server, asks, is_up, stage_of, stage_under, stage_with}
-use Rattle.core_definitions.specs.Sets.{LockSet, has_lock, lacks, next_segment, segment_of, segments_in, to_ask}
+use Rattle.set_definitions.specs.Sets.{LockSet, has_lock, lacks, next_segment, segment_of, segments_in, to_ask}
 use Rattle.core_definitions.specs.Settings.{Setting}
 use Rattle.core_laws.specs.Laws.{AreOnce}
 use Rattle.core_laws.proofs.Membership.{contains_in, in_contains}
@@ -78,11 +79,11 @@ pushed (y ∷ ys) x o n = ((λ h. apart (contains_in (ys ++ x ∷ []) y h)), pus
     apart : Among y (ys ++ x ∷ []) → ⊥
     apart i = ⊎_elim (λ j. o.0 (in_contains ys y j)) (λ e. n (inl e)) (split ys i)
 
-seen_keys : (seen : Seen) (one : ℕ × ℕ) → keys_of (seen ++ one ∷ []) ≡ keys_of seen ++ one.0 ∷ []
+seen_keys : (seen : SeenSectors) (one : ℕ × ℕ) → keys_of (seen ++ one ∷ []) ≡ keys_of seen ++ one.0 ∷ []
 seen_keys [] one = refl
 seen_keys (x ∷ xs) one = ap (λ ks. x.0 ∷ ks) (seen_keys xs one)
 
-in_seen : (seen : Seen) (sector : ℕ) → Among sector (keys_of seen) → IsTrue (is_seen seen sector)
+in_seen : (seen : SeenSectors) (sector : ℕ) → Among sector (keys_of seen) → IsTrue (is_seen seen sector)
 in_seen [] sector i = absurd i
 in_seen (x ∷ xs) sector (inl e) = or_left (x.0 == sector) (is_seen xs sector) (same x.0 (sym e))
   where
@@ -90,7 +91,7 @@ in_seen (x ∷ xs) sector (inl e) = or_left (x.0 == sector) (is_seen xs sector) 
     same n e = grind (arith, nat_tests, e)
 in_seen (x ∷ xs) sector (inr i) = or_right (x.0 == sector) (is_seen xs sector) (in_seen xs sector i)
 
-with_seen_once : (cached : Cached) (seen : Seen) (sector : ℕ) → AreOnce (keys_of seen) → AreOnce (keys_of (with_seen cached seen sector))
+with_seen_once : (cached : Cached) (seen : SeenSectors) (sector : ℕ) → AreOnce (keys_of seen) → AreOnce (keys_of (with_seen cached seen sector))
 with_seen_once cached seen sector o = go (is_seen seen sector) refl
   where
     go : (b : Bool) → is_seen seen sector ≡ b →
@@ -100,7 +101,7 @@ with_seen_once cached seen sector o = go (is_seen seen sector) refl
         subst AreOnce (sym (seen_keys seen (sector, unwrap_or (option_map version_of (value_at cached sector)) 0)))
         (pushed (keys_of seen) sector o (λ i. false≢true (sym e ∙ in_seen seen sector i)))
 
-seen_more_once : (cached : Cached) (sectors : List ℕ) (seen : Seen) → AreOnce (keys_of seen) → AreOnce (keys_of (seen_more cached seen sectors))
+seen_more_once : (cached : Cached) (sectors : List ℕ) (seen : SeenSectors) → AreOnce (keys_of seen) → AreOnce (keys_of (seen_more cached seen sectors))
 seen_more_once cached [] seen o = o
 seen_more_once cached (sector ∷ sectors) seen o = seen_more_once cached sectors (with_seen cached seen sector) (with_seen_once cached seen sector o)
 
@@ -124,7 +125,7 @@ through_order HasGoneThrough stage s = s
 through_order HasStopped stage s = tt
 through_order HasMoved stage s = tt
 
-grown_order : (set : LockSet) (needs : List Lock) (seen : Seen) (stage : Stage) → AreOnce (keys_of seen) → IsStageInOrder stage →
+grown_order : (set : LockSet) (needs : List Lock) (seen : SeenSectors) (stage : Stage) → AreOnce (keys_of seen) → IsStageInOrder stage →
     IsStageInOrder (or_grown set needs seen stage)
 grown_order set needs seen stage o s = go (list_any (lacks set) needs)
   where
@@ -132,7 +133,7 @@ grown_order set needs seen stage o s = go (list_any (lacks set) needs)
     go true = o
     go false = s
 
-needing_order : (comparison : Comparison) (set : LockSet) (seen : Seen) (sector : ℕ) (cover : LockId) → AreOnce (keys_of seen) →
+needing_order : (comparison : Comparison) (set : LockSet) (seen : SeenSectors) (sector : ℕ) (cover : LockId) → AreOnce (keys_of seen) →
     IsStageInOrder (needing comparison set seen sector cover)
 needing_order comparison set seen sector cover o = go (has_lock set cover)
   where
@@ -140,7 +141,7 @@ needing_order comparison set seen sector cover o = go (has_lock set cover)
     go true = sorted_one nat_cmp sector
     go false = through_order comparison (Growing ((cover, needed_mode cover) ∷ []) seen) o
 
-by_order : (setting : Setting) (line : Line) (operation : Op) (sight : Sight) (set : LockSet) (next : Option ℕ) (comparison : Comparison) (seen : Seen) (nodes : List ℕ) (plan : Met Plan) →
+by_order : (setting : Setting) (line : Line) (operation : Op) (sight : Sight) (set : LockSet) (next : Option ℕ) (comparison : Comparison) (seen : SeenSectors) (nodes : List ℕ) (plan : Met Plan) →
     AreOnce (keys_of seen) → IsStageInOrder (stage_by setting line operation sight set next comparison seen nodes plan)
 by_order setting line operation sight set next comparison seen nodes (Needs sector) o = needing_order comparison set seen _ _ o
 by_order setting line operation sight set next comparison seen nodes (Has Lacks) o = through_order comparison (Growing (sole_segment next) seen) o

@@ -40,7 +40,7 @@ use Rattle.core_definitions.specs.Logs.{is_read}
 use Rattle.core_definitions.specs.Recoveries.{Recovery}
 use Rattle.core_definitions.specs.Scripts.{host_party}
 use Rattle.core_definitions.specs.Servers.{Phase, Off, Up, Still, Doomed, Dead, Server, asked_by, asks, due_if, due_under, is_answering, is_off, is_open, is_still, is_up, own_answer, own_answer_of, wanting_all, wanting_all_up}
-use Rattle.core_definitions.specs.Sets.{has_lock, held_set}
+use Rattle.set_definitions.specs.Sets.{has_lock, held_set}
 use Rattle.core_definitions.specs.Settings.{Setting}
 use Rattle.core_definitions.specs.Writes.{Write, comes_clean}
 use Rattle.core_definitions.specs.Cores.{Core, clean_at, due_at, expiry_of, next_of, stage, with_server, writes}

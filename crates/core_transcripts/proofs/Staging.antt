@@ -13,9 +13,10 @@ use Rattle.disk_definitions.specs.Plans.{Finish, Lock, Plan}
 use Rattle.disk_definitions.specs.Plans.Plan.{Lacks, Clears, Finishes}
 use Rattle.disk_definitions.specs.Written.{hand_of}
 use Rattle.cache_definitions.specs.Caches.{Cache}
-use Rattle.core_definitions.specs.Lines.{Comparison, HasMoved, HasStopped, HasGoneThrough, Seen, Stage, Asking, Fetching, Moving, Stopping, Growing, Clearing, Finishing, Under, compared, missing_bitmaps, needed_mode, needing, once_through, or_grown, seen_more, sole_segment, stage_asked, stage_at, stage_by, stage_held, stage_over}
+use Rattle.set_definitions.specs.Seen.{Comparison, HasMoved, HasStopped, HasGoneThrough, SeenSectors, compared, seen_more}
+use Rattle.core_definitions.specs.Lines.{Stage, Asking, Fetching, Moving, Stopping, Growing, Clearing, Finishing, Under, missing_bitmaps, needed_mode, needing, once_through, or_grown, sole_segment, stage_asked, stage_at, stage_by, stage_held, stage_over}
 use Rattle.core_definitions.specs.Plans.{Outcome, Sight, clear_needs, cover_of, examined_in, finish_needs, known_in, nodes_looked_at, outcome_of, planned, program_of, sight_of}
-use Rattle.core_definitions.specs.Sets.{LockSet, has_lock, lacks, next_segment, to_ask}
+use Rattle.set_definitions.specs.Sets.{LockSet, has_lock, lacks, next_segment, to_ask}
 use Rattle.core_definitions.specs.Settings.{Setting}
 use Rattle.core_transcripts.proofs.Always.{Always, always_met}
 use Rattle.core_transcripts.proofs.Lining.{line_looks, line_plain}
@@ -25,21 +26,21 @@ use Rattle.core_transcripts.proofs.Walking.{IsPlain}
 -- ---- a test of stages by the plan
 
 module _ (setting : Setting) (P : Stage → Type 0) (Q : Plan → Type 0) (asking : (need : Lock) → P (Asking need)) (fetching : (needs : List (ℕ × LockId)) → P (Fetching needs)) (moving : P Moving)
-    (stopping : P Stopping) (growing : (needs : List Lock) (seen : Seen) → P (Growing needs seen)) (clears : (block : ℕ) (locks : List Lock) → Q (Clears block locks) → P (Clearing block))
+    (stopping : P Stopping) (growing : (needs : List Lock) (seen : SeenSectors) → P (Growing needs seen)) (clears : (block : ℕ) (locks : List Lock) → Q (Clears block locks) → P (Clearing block))
     (finishes : (line : Line) (nodes : List ℕ) (sight : Sight) (finish : Finish) → Q (Finishes finish) → P (Finishing (outcome_of setting line nodes sight finish))) where
   through : (comparison : Comparison) (stage : Stage) → P stage → P (once_through comparison stage)
   through HasGoneThrough stage p = p
   through HasStopped stage p = stopping
   through HasMoved stage p = moving
 
-  grown : (set : LockSet) (needs : List Lock) (seen : Seen) (stage : Stage) → P stage → P (or_grown set needs seen stage)
+  grown : (set : LockSet) (needs : List Lock) (seen : SeenSectors) (stage : Stage) → P stage → P (or_grown set needs seen stage)
   grown set needs seen stage p = go (list_any (lacks set) needs)
     where
       go : (b : Bool) → P (if b then Growing needs seen else stage)
       go true = growing needs seen
       go false = p
 
-  module _ (line : Line) (operation : Op) (sight : Sight) (set : LockSet) (next : Option ℕ) (comparison : Comparison) (seen : Seen) (nodes : List ℕ) where
+  module _ (line : Line) (operation : Op) (sight : Sight) (set : LockSet) (next : Option ℕ) (comparison : Comparison) (seen : SeenSectors) (nodes : List ℕ) where
     needs_so : (sector : ℕ) (cover : LockId) → P (needing comparison set seen sector cover)
     needs_so sector cover = go (has_lock set cover)
       where

@@ -22,7 +22,7 @@ use Rattle.disk_definitions.specs.Plans.{Lock}
 use Rattle.plan_laws.proofs.Covering.{has_cases, has_head, has_more, not_in_none, all_has, all_from}
 use Rattle.plan_laws.specs.Locks.{IsSole}
 use Rattle.plan_laws.specs.Covers.{IsHeld}
-use Rattle.core_definitions.specs.Sets.{LockSet, joined, joined_all, lacks, mode_in, with_mode}
+use Rattle.set_definitions.specs.Sets.{LockSet, joined, joined_all, lacks, mode_in, with_mode}
 use Rattle.line_locks.specs.Same.{AlikeLocksJoinAlike, AlikeLocksLackAlike, AreAlike, AreWithin, Have, HaveMode, SetsAreAlike}
 use Rattle.line_locks.proofs.Alike.{have_it}
 

@@ -10,7 +10,7 @@ use Rattle.lock_definitions.specs.Order.{lock_cmp}
 use Rattle.disk_definitions.specs.Plans.{Lock}
 use Rattle.plan_laws.specs.Locks.{IsSole}
 use Rattle.plan_laws.specs.Covers.{IsHeld}
-use Rattle.core_definitions.specs.Sets.{LockSet, joined_all, lacks}
+use Rattle.set_definitions.specs.Sets.{LockSet, joined_all, lacks}
 
 -- these locks have the lock in this mode, or sole
 abbrev pub HaveMode : List Lock → LockId → Mode → Type 0

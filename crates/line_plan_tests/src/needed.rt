@@ -2,7 +2,8 @@
 use dir_lookup::Hand;
 use frang_base::{LockId, Mode, NoMemory, Sector};
 use line_plan::LineEnd;
-use plan_locks::{LockSet, locks_of_clear, locks_of_finish};
+use lock_sets::LockSet;
+use plan_locks::{locks_of_clear, locks_of_finish};
 use std::alloc::Global;
 use std::fmt::Write;
 
@@ -42,22 +43,17 @@ fn set_told(alloc: Global, set: &LockSet) -> Result<String, NoMemory> {
     Ok(text)
 }
 
-// The locks of both segments and of nine nodes, as far as they are needed.
 fn add_set(text: &mut String, set: &LockSet) -> Result<(), NoMemory> {
-    for segment in 0..DISK_SEGMENTS {
-        add_lock(text, set, LockId::Segment(segment))?;
-    }
-    for inode in 0..9 {
-        add_lock(text, set, LockId::Node(inode))?;
+    for need in set.as_slice() {
+        add_lock(text, need.0, need.1)?;
     }
     Ok(())
 }
 
-fn add_lock(text: &mut String, set: &LockSet, lock: LockId) -> Result<(), NoMemory> {
-    let sole = match set.mode(lock) {
-        None => return Ok(()),
-        Some(Mode::Shared) => "",
-        Some(Mode::Sole) => "!",
+fn add_lock(text: &mut String, lock: LockId, mode: Mode) -> Result<(), NoMemory> {
+    let sole = match mode {
+        Mode::Shared => "",
+        Mode::Sole => "!",
     };
     match lock {
         LockId::Log(log) => write!(text, "l{log}{sole} ")?,

@@ -5,7 +5,7 @@ use Rattle.std.proofs.lemmas.List.Sums.{fold-append}
 use Rattle.frang_base.specs.declared.lock.LockId.TheVariants as lock
 use Rattle.frang_base.specs.declared.lock.Mode.TheVariants.{Sole}
 use Rattle.disk_definitions.specs.Plans.{Lock, sole_nodes}
-use Rattle.core_definitions.specs.Sets.{LockSet, joined, joined_all}
+use Rattle.set_definitions.specs.Sets.{LockSet, joined, joined_all}
 
 pub joined_two : (set : LockSet) (a b : List Lock) → joined_all (joined_all set a) b ≡ joined_all set (a ++ b)
 joined_two set a b = sym (fold-append joined set a b)

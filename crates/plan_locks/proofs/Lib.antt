@@ -1,4 +1,2 @@
-pub mod Compared
 pub mod Joined
-pub mod Kept
 pub mod Needed

@@ -11,7 +11,7 @@ use Rattle.disk_definitions.specs.Plans.Plan.{Finishes}
 use Rattle.disk_definitions.specs.Written.{at_hand, hand_of}
 use Rattle.disk_definitions.specs.Store.{store_of}
 use Rattle.lock_definitions.specs.Order.{lock_cmp}
-use Rattle.core_definitions.specs.Sets.{LockSet, joined_all, mode_in}
+use Rattle.set_definitions.specs.Sets.{LockSet, joined_all, mode_in}
 use Rattle.dir_lookup.specs.declared.hand.Hand.{Hand}
 use Rattle.disk_definitions.specs.Lines.{plan_of_line}
 use Rattle.disk_definitions.specs.LookedAt.{looked_nodes, nodes_in}

@@ -19,7 +19,7 @@ use Rattle.disk_definitions.specs.Written.{Cached, at_hand, hand_of}
 use Rattle.disk_definitions.specs.Covers.{cover_of}
 use Rattle.disk_definitions.specs.Moves.{moved_by}
 use Rattle.disk_definitions.specs.Lines.{plan_of_line, resolved}
-use Rattle.core_definitions.specs.Sets.{LockSet, joined_all, mode_in}
+use Rattle.set_definitions.specs.Sets.{LockSet, joined_all, mode_in}
 use Rattle.dir_lookup.specs.declared.hand.Hand.{Hand}
 use Rattle.disk_definitions.specs.LookedAt.{nodes_in, looked_nodes}
 

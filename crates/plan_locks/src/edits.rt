@@ -1,15 +1,15 @@
 // The locks under which edits are made.
 ghost use Rattle.std.specs.Prelude.{◌≡◌, OnOk, filter, map};
 ghost use Rattle.std.specs.Map.{keys_of};
-ghost use Rattle.core_definitions.specs.Sets.{joined_all};
+ghost use Rattle.set_definitions.specs.Sets.{joined_all};
 ghost use Rattle.disk_definitions.specs.Plans.{shared_nodes, sole_nodes, sole_segments, says_full};
 ghost use Rattle.plan_steps.specs.Edits.{edit_of, edits_of};
 ghost use Rattle.disk_definitions.specs.FoundLocks.{edit_locks, edit_locks_of, full_locks, owns_at_hand};
 
-use crate::set::LockSet;
 use edit_moves::owns_small;
 use frang_base::limits::{SEGMENT_BLOCKS, SEGMENT_INODES};
 use frang_base::{Held, LockId, Mode, NoMemory, Reply};
+use lock_sets::LockSet;
 use meta_version::Sectors;
 use plan_steps::Edit;
 

@@ -1,19 +1,19 @@
 // The locks that a plan needs.
 ghost use Rattle.std.specs.Prelude.{◌≡◌, ◌≤◌, ◌/◌, ◌∷◌, [], IfOk, OnOk};
 ghost use Rattle.frang_base.specs.declared.limits.TheConstants.{SEGMENT_BLOCKS, SEGMENTS_MAX};
-ghost use Rattle.core_definitions.specs.Sets.{joined_all};
+ghost use Rattle.set_definitions.specs.Sets.{joined_all};
 ghost use Rattle.plan_steps.specs.Edits.{edits_of};
 ghost use Rattle.disk_definitions.specs.LookedAt.{nodes_in};
 ghost use Rattle.disk_definitions.specs.FoundLocks.{clear_locks, clear_soles, finish_locks, from_end, makes_node, nodes_behind, owns_at_hand};
 ghost use Rattle.plan_locks.specs.Needs.{ClearIsNeeded, FinishIsNeeded, MovesAreSole};
-ghost use Rattle.plan_locks.specs.Seen.{numbers};
+ghost use Rattle.lock_sets.specs.Seen.{numbers};
 
 use crate::edits::{join_edits, join_full, join_nodes};
 use crate::nodes::{from_end, nodes_in};
-use crate::set::LockSet;
 use dir_lookup::Hand;
 use frang_base::limits::{SEGMENT_BLOCKS, SEGMENT_INODES};
 use frang_base::{LockId, Mode, NoMemory, Op, Reply, Sector};
+use lock_sets::LockSet;
 use plan_steps::Edit;
 use std::alloc::Global;
 

@@ -3,7 +3,7 @@ ghost use Rattle.std.specs.Prelude.{◌≡◌, ◌≤◌, IfOk, OnOk};
 ghost use Rattle.frang_base.specs.declared.limits.TheConstants.{SEGMENTS_MAX};
 ghost use Rattle.disk_definitions.specs.LookedAt.{nodes_in, with_node};
 ghost use Rattle.disk_definitions.specs.FoundLocks.{from_end};
-ghost use Rattle.plan_locks.specs.Seen.{numbers};
+ghost use Rattle.lock_sets.specs.Seen.{numbers};
 
 use frang_base::{NoMemory, Sector};
 use frang_layout::{Region, region_of};

@@ -1,6 +1,6 @@
 -- The set so far, and the edits that are left.
 use Rattle.std.proofs.Common.{◌≡◌, drop}
-use Rattle.core_definitions.specs.Sets.{joined_all}
+use Rattle.set_definitions.specs.Sets.{joined_all}
 use Rattle.plan_steps.specs.Edits.{edits_of}
 use Rattle.disk_definitions.specs.FoundLocks.{edit_locks, owns_at_hand}
 use Rattle.plan_locks.proofs.edits.join_edits.Given as goal

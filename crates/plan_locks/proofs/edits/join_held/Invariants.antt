@@ -1,7 +1,7 @@
 -- The set so far, and the segments that are left.
 use Rattle.std.proofs.Common.{◌≡◌}
 use Rattle.std.specs.Map.{keys_of}
-use Rattle.core_definitions.specs.Sets.{joined_all}
+use Rattle.set_definitions.specs.Sets.{joined_all}
 use Rattle.disk_definitions.specs.Plans.{sole_segments}
 use Rattle.plan_locks.proofs.edits.join_held.Given as goal
 

@@ -1,6 +1,6 @@
 -- The set so far, and the nodes that are left.
 use Rattle.std.proofs.Common.{◌≡◌, drop}
-use Rattle.core_definitions.specs.Sets.{joined_all}
+use Rattle.set_definitions.specs.Sets.{joined_all}
 use Rattle.disk_definitions.specs.Plans.{shared_nodes}
 use Rattle.plan_locks.proofs.edits.join_nodes.Given as goal
 

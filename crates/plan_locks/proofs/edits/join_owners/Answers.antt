@@ -1,6 +1,6 @@
 -- A node that has the block joins, and another doesn't.
 use Rattle.std.proofs.Common.{◌<◌, ℕ, Bool, filter, length, sym, ◌∙◌}
-use Rattle.core_definitions.specs.Sets.{joined_all}
+use Rattle.set_definitions.specs.Sets.{joined_all}
 use Rattle.disk_definitions.specs.Plans.{sole_nodes}
 use Rattle.disk_definitions.specs.FoundLocks.{owns_at_hand}
 use Rattle.plan_locks.proofs.Joined.{owner_joins, owner_stays}

@@ -1,6 +1,6 @@
 -- The set so far, and the nodes that are left.
 use Rattle.std.proofs.Common.{◌≡◌, drop, filter}
-use Rattle.core_definitions.specs.Sets.{joined_all}
+use Rattle.set_definitions.specs.Sets.{joined_all}
 use Rattle.disk_definitions.specs.Plans.{sole_nodes}
 use Rattle.disk_definitions.specs.FoundLocks.{owns_at_hand}
 use Rattle.plan_locks.proofs.edits.join_owners.Given as goal

@@ -1,11 +1,11 @@
 -- Over a disk that stands for a tree the locks that are found are the plan's.
 use Rattle.std.proofs.lemmas.Result.{IfOk-weaker}
-use Rattle.core_definitions.specs.Sets.{LockSet, joined_all}
+use Rattle.set_definitions.specs.Sets.{LockSet, joined_all}
 use Rattle.std.proofs.Common.{◌≡◌, []}
 use Rattle.disk_definitions.specs.LookedAt.{nodes_in}
 use Rattle.disk_definitions.specs.FoundLocks.{clear_locks}
 use Rattle.plan_locks.specs.Needs.{ClearIsNeeded}
-use Rattle.plan_locks.specs.Seen.{numbers}
+use Rattle.lock_sets.specs.Seen.{numbers}
 use Rattle.plan_locks.proofs.Needed.{clear_needed}
 use Rattle.plan_locks.proofs.locks.locks_of_clear.Goals as goal
 

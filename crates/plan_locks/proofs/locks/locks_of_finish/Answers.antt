@@ -1,12 +1,12 @@
 -- Over a disk that stands for a tree the locks that are found are the plan's.
 use Rattle.std.proofs.Common.{◌≡◌, []}
 use Rattle.std.proofs.lemmas.Result.{IfOk-weaker}
-use Rattle.core_definitions.specs.Sets.{LockSet, joined_all}
+use Rattle.set_definitions.specs.Sets.{LockSet, joined_all}
 use Rattle.plan_steps.specs.Edits.{edits_of}
 use Rattle.disk_definitions.specs.LookedAt.{nodes_in}
 use Rattle.disk_definitions.specs.FoundLocks.{finish_locks, owns_at_hand}
 use Rattle.plan_locks.specs.Needs.{FinishIsNeeded, MovesAreSole}
-use Rattle.plan_locks.specs.Seen.{numbers}
+use Rattle.lock_sets.specs.Seen.{numbers}
 use Rattle.plan_locks.proofs.Needed.{finish_needed, moves_sole}
 use Rattle.plan_locks.proofs.locks.locks_of_finish.Goals as goal
 

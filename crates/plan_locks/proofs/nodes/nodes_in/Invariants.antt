@@ -1,7 +1,7 @@
 -- The nodes so far, and those of the sectors that are left.
 use Rattle.std.proofs.Common.{◌≡◌, fold, drop}
 use Rattle.disk_definitions.specs.LookedAt.{nodes_in, with_node}
-use Rattle.plan_locks.specs.Seen.{numbers}
+use Rattle.lock_sets.specs.Seen.{numbers}
 use Rattle.plan_locks.proofs.nodes.nodes_in.Given as goal
 
 abbrev pub invariant-loop-sector : goal.invariant-loop-sector

@@ -1,0 +1,3 @@
+pub mod Along
+pub mod Comparing
+pub mod Kept
