@@ -1,2 +1,3 @@
 pub mod CacheLaws
 pub mod CacheExamples
+pub mod FlagLaws

@@ -1,5 +1,5 @@
 //! What a server has cached of sectors: of each its block, the lock that covers it and, where it is dirty, its dirt; and what is asked of such a cache and
-//! made of it. The core of several servers and the cache as code cite it. Nearly all of it is `specs/`: the code is the dirt, which the cache keeps, and
+//! made of it; and the same with flags, as a cache as code is seen. The core of several servers and the cache as code cite it. Nearly all of it is `specs/`: the code is the dirt, which the cache keeps, and
 //! the law that some sector passes a test exactly where there is a first that does. It stands on the base types, on maps of sectors and on the order of
 //! locks.
 #![tactic(auto)]
@@ -8,4 +8,4 @@ mod dirt;
 mod laws;
 
 pub use dirt::Dirt;
-pub use laws::some_sector_passes_where_a_first_does;
+pub use laws::{some_sector_passes_where_a_first_does, what_is_left_is_not_among_them};

@@ -30,7 +30,7 @@ covers = record { total = cover_total; exact = found_cover }
 
 -- ---- other sectors have other keys
 
-other_then : (o p : Ordering) → is_eq p ≡ false → is_eq (ordering_then o p) ≡ false
+pub other_then : (o p : Ordering) → is_eq p ≡ false → is_eq (ordering_then o p) ≡ false
 other_then Less p e = refl
 other_then Equal p e = e
 other_then Greater p e = refl

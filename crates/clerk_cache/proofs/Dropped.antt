@@ -46,7 +46,7 @@ marks-joined (b ∷ blocks) (s ∷ states) alike =
     ap (λ key. filter_map state_mark ((key, s.1) ∷ states)) (sym alike.0) ∙ go s.1.dirt (marks-joined blocks states alike.1)
   where
     go : (dirt : Option Dirt) → state_marks states ≡ marks_of (joined blocks states)
-        → filter_map state_mark ((b.0, record { cover = s.1.cover; dirt = dirt }) ∷ states) ≡ filter_map mark_of ((b.0, cached_of b.1 (record { cover = s.1.cover; dirt = dirt })) ∷ joined blocks states)
+        → filter_map state_mark ((b.0, record s.1 { dirt = dirt }) ∷ states) ≡ filter_map mark_of ((b.0, cached_of b.1 (record s.1 { dirt = dirt })) ∷ joined blocks states)
     go (Some dirt) rest = ap (λ marks. record { sector = record { 0 = b.0 }; mark = dirt.mark } ∷ marks) rest
     go None rest = rest
 

@@ -12,8 +12,8 @@ use Rattle.sector_bytes.specs.Blocks.{Block}
 use Rattle.sector_bytes.specs.SectorMaps.{value_at, with_value, without, adjusted, Ascend}
 use Rattle.sector_bytes.proofs.MapLaws.{with_value_there, ascend_with, ascend_without, ascend_adjusted}
 use Rattle.clerk_cache.specs.declared.state.SectorState.{SectorState}
-use Rattle.cache_definitions.specs.Caches.{block_at, blocks_of}
-use Rattle.clerk_cache.specs.Kept.{cached_of, state_of, joined, state_at, AreAlike, AreKept}
+use Rattle.cache_definitions.specs.Caches.{CachedSector, block_at, blocks_of}
+use Rattle.clerk_cache.specs.Kept.{cached_of, joined, AreAlike, AreKept}
 
 abbrev pub Blocks : Type 0
 Blocks = List (ℕ × Block)
@@ -49,17 +49,18 @@ block_at-joined (block ∷ blocks) (state ∷ states) sector alike = go (is_at (
     go true rest = refl
     go false rest = rest
 
-pub state_at-joined : (blocks : Blocks) (states : States) (sector : ℕ) → AreAlike blocks states → value_at states sector ≡ state_at (joined blocks states) sector
-state_at-joined [] [] sector alike = refl
-state_at-joined [] (s ∷ states) sector alike = elim alike [ ]
-state_at-joined (b ∷ blocks) [] sector alike = elim alike [ ]
-state_at-joined (block ∷ blocks) (state ∷ states) sector alike =
-    ap (λ key. if is_at (nat_cmp sector) key then Some state.1 else value_at states sector) (sym alike.0)
-    ∙ go (is_at (nat_cmp sector) block.0) (state_at-joined blocks states sector alike.1)
+pub state_at-joined : {X : Type 0} (f : SectorState → X) (g : CachedSector → X) → ((block : Block) (state : SectorState) → f state ≡ g (cached_of block state)) → (blocks : Blocks) (states : States) (sector : ℕ) → AreAlike blocks states
+    → option_map f (value_at states sector) ≡ option_map g (value_at (joined blocks states) sector)
+state_at-joined f g agree [] [] sector alike = refl
+state_at-joined f g agree [] (s ∷ states) sector alike = elim alike [ ]
+state_at-joined f g agree (b ∷ blocks) [] sector alike = elim alike [ ]
+state_at-joined f g agree (block ∷ blocks) (state ∷ states) sector alike =
+    ap (λ key. option_map f (if is_at (nat_cmp sector) key then Some state.1 else value_at states sector)) (sym alike.0)
+    ∙ go (is_at (nat_cmp sector) block.0) (state_at-joined f g agree blocks states sector alike.1)
   where
-    go : (b : Bool) → value_at states sector ≡ state_at (joined blocks states) sector
-        → (if b then Some state.1 else value_at states sector) ≡ option_map state_of (if b then Some (cached_of block.1 state.1) else value_at (joined blocks states) sector)
-    go true rest = refl
+    go : (b : Bool) → option_map f (value_at states sector) ≡ option_map g (value_at (joined blocks states) sector)
+        → option_map f (if b then Some state.1 else value_at states sector) ≡ option_map g (if b then Some (cached_of block.1 state.1) else value_at (joined blocks states) sector)
+    go true rest = ap Some (agree block.1 state.1)
     go false rest = rest
 
 -- ---- a sector set in both
@@ -177,19 +178,19 @@ alike-states f (b ∷ blocks) (s ∷ states) sector alike = go (is_at (nat_cmp s
     go true rest = alike
     go false rest = (alike.0, rest)
 
-pub joined-states : (f : SectorState → SectorState) (blocks : Blocks) (states : States) (sector : ℕ) → AreAlike blocks states
-    → joined blocks (adjusted f states sector) ≡ adjusted (λ cached. cached_of cached.block (f (state_of cached))) (joined blocks states) sector
-joined-states f [] [] sector alike = refl
-joined-states f [] (s ∷ states) sector alike = elim alike [ ]
-joined-states f (b ∷ blocks) [] sector alike = elim alike [ ]
-joined-states f (b ∷ blocks) (s ∷ states) sector alike =
+pub joined-states : (f : SectorState → SectorState) (g : CachedSector → CachedSector) → ((block : Block) (state : SectorState) → cached_of block (f state) ≡ g (cached_of block state)) → (blocks : Blocks) (states : States) (sector : ℕ) → AreAlike blocks states
+    → joined blocks (adjusted f states sector) ≡ adjusted g (joined blocks states) sector
+joined-states f g agree [] [] sector alike = refl
+joined-states f g agree [] (s ∷ states) sector alike = elim alike [ ]
+joined-states f g agree (b ∷ blocks) [] sector alike = elim alike [ ]
+joined-states f g agree (b ∷ blocks) (s ∷ states) sector alike =
     ap (λ key. joined (b ∷ blocks) (if is_at (nat_cmp sector) key then (s.0, f s.1) ∷ states else s ∷ adjusted f states sector)) (sym alike.0)
-    ∙ go (is_at (nat_cmp sector) b.0) (joined-states f blocks states sector alike.1)
+    ∙ go (is_at (nat_cmp sector) b.0) (joined-states f g agree blocks states sector alike.1)
   where
-    go : (t : Bool) → joined blocks (adjusted f states sector) ≡ adjusted (λ cached. cached_of cached.block (f (state_of cached))) (joined blocks states) sector
+    go : (t : Bool) → joined blocks (adjusted f states sector) ≡ adjusted g (joined blocks states) sector
         → joined (b ∷ blocks) (if t then (s.0, f s.1) ∷ states else s ∷ adjusted f states sector)
-        ≡ (if t then (b.0, cached_of b.1 (f s.1)) ∷ joined blocks states else (b.0, cached_of b.1 s.1) ∷ adjusted (λ cached. cached_of cached.block (f (state_of cached))) (joined blocks states) sector)
-    go true rest = refl
+        ≡ (if t then (b.0, g (cached_of b.1 s.1)) ∷ joined blocks states else (b.0, cached_of b.1 s.1) ∷ adjusted g (joined blocks states) sector)
+    go true rest = ap (λ cached. (b.0, cached) ∷ joined blocks states) (agree b.1 s.1)
     go false rest = ap (λ tail. (b.0, cached_of b.1 s.1) ∷ tail) rest
 
 -- ---- the state of a sector that is there
@@ -202,17 +203,3 @@ ascend_states (b ∷ blocks) (s ∷ states) alike = λ i. alike.0 i ∷ ascend_s
 
 pub states_ascend : {blocks : Blocks} {states : States} → AreKept blocks states → Ascend states
 states_ascend {blocks} {states} kept = subst (IsStrictlySortedBy nat_cmp) (ascend_states blocks states kept.alike) kept.ordered
-
-set_over : (states : States) (sector : ℕ) (state : SectorState) → Ascend states → (o : Option SectorState) → value_at states sector ≡ o → IsSome o → with_value states sector state ≡ adjusted (λ s. state) states sector
-set_over states sector state sorted (Some old) is some = with_value_there (λ s. state) states sector old sorted is
-set_over states sector state sorted None is some = absurd (false≢true some)
-
-some_mapped : {X Y : Type 0} (f : X → Y) (o : Option X) → IsSome o → IsSome (option_map f o)
-some_mapped f (Some x) some = refl
-some_mapped f None some = some
-
--- to set the state of a sector that is there is to make it another
-pub set_there : (blocks : Blocks) (states : States) (sector : ℕ) (state : SectorState) → AreKept blocks states → IsSome (value_at (joined blocks states) sector) → with_value states sector state ≡ adjusted (λ s. state) states sector
-set_there blocks states sector state kept some =
-    let sorted = subst (IsStrictlySortedBy nat_cmp) (ascend_states blocks states kept.alike) kept.ordered in
-    set_over states sector state sorted (state_at (joined blocks states) sector) (state_at-joined blocks states sector kept.alike) (some_mapped state_of (value_at (joined blocks states) sector) some)

@@ -5,7 +5,15 @@ pub mod Dropped
 pub mod Keying
 pub mod CoverOrder
 pub mod UnderLock
+pub mod CoveredMarkOrder
+pub mod MarksUnderLock
 pub mod Pieces
 pub mod MarkKeys
+pub mod Flagging
+pub mod Staying
+pub mod IdleMarks
+pub mod Flown
+pub mod WantedAll
+pub mod OrderRooms
 pub mod DropLaws
 pub mod CacheExamples

@@ -1,3 +1,4 @@
+pub mod CoveredMarks
 pub mod Covers
 pub mod Dropping
 pub mod Indexing

@@ -1,5 +1,5 @@
 // The cached sectors.
-ghost use Rattle.std.specs.Prelude.{◌≡◌, ◌+◌, ◌<◌, ◌≤◌, ◌++◌, [], not, is_some, true, false, IsOk, IsSome, IfOk, OnOk};
+ghost use Rattle.std.specs.Prelude.{◌≡◌, ◌+◌, ◌<◌, ◌≤◌, ◌++◌, [], None, not, if◌then◌else◌, is_some, true, false, IsOk, IsSome, IfOk, OnErr, OnOk};
 ghost use Rattle.std.specs.List.Sorted.{IsStrictlySortedBy};
 ghost use Rattle.std.specs.Option.{option_and_then, option_copied, option_map};
 ghost use Rattle.std.specs.Ordering.{nat_cmp, on};
@@ -9,13 +9,15 @@ ghost use Rattle.sector_bytes.specs.Changes.{is_change};
 ghost use Rattle.sector_bytes.specs.SectorMaps.{Ascend, value_at, with_value, without, adjusted, room_for};
 ghost use Rattle.meta_version.specs.Updates.{IsOlder};
 ghost use Rattle.flush_order.specs.Marks.{next_reached, sector_reached};
-ghost use Rattle.cache_definitions.specs.Caches.{any_cached, block_at, blocks_of, clean, cleaned, cover_at, dirty, dropped, first_cached, forgotten, is_dirty, is_dirty_bytes_at, is_dirty_under, is_under, mark_at, still_has, with_change, with_cover, with_written};
+ghost use Rattle.cache_definitions.specs.Caches.{any_cached, block_at, blocks_of, clean, cleaned, cover_at, dirty, dirty_sectors, dropped, first_cached, forgotten, is_dirty, is_dirty_at, is_dirty_bytes_at, is_dirty_under, is_under, mark_at, still_has, with_change, with_cover, with_written};
+ghost use Rattle.cache_definitions.specs.Flags.{among_cached, but, but_all, with_cached};
+ghost use Rattle.frang_base.specs.Functions.{member};
 ghost use Rattle.ordered_map.specs.Chunks.{joined};
-ghost use Rattle.clerk_cache.specs.Kept.{cached_of, state_at, state_marks};
-ghost use Rattle.clerk_cache.specs.Marks.{marks_of};
+ghost use Rattle.clerk_cache.specs.Kept.{state_marks, state_set};
+ghost use Rattle.clerk_cache.specs.Marks.{idle_marks_of, is_one, is_one_of_bytes, is_one_staying, is_one_under, marks_of};
 ghost use Rattle.clerk_cache.specs.Dropping.{numbers_of, DropOutcome};
 
-use crate::state::SectorState;
+use crate::state::{Changed, Cleaned, Flown, Moved, SectorState, is_staying};
 use crate::states::States;
 use cache_definitions::Dirt;
 use flush_order::Mark;
@@ -27,7 +29,10 @@ use std::alloc::Global;
 use std::marker::Model;
 
 /// The cached sectors of a server. Contracts see them as entries, a sector's number with its block, the lock that covers it and,
-/// where it is dirty, its mark and whether it is one of file bytes, ascending by sector, and for how many more entries there is room.
+/// where it is dirty, its mark and whether it is one of file bytes, ascending by sector; of these the dirty sectors that stay wanted and
+/// those with a write in flight; and for how many more entries there is room. Only a dirty sector stays wanted, so that its flag goes
+/// with its dirt: where the definition of the core leaves a sector among those that stay while it takes its dirt, the sector isn't dirty
+/// before. That a write is in flight is said by who issues and takes in writes, of sectors that are cached.
 pub struct Cache {
     sectors: Sectors,
     states: States,
@@ -46,10 +51,9 @@ impl Drop for Cache {
 }
 
 impl Model for Cache {
-    ghost use Rattle.sector_bytes.specs.SectorMaps.{Spacious};
-    ghost use Rattle.cache_definitions.specs.Caches.{CachedSector};
+    ghost use Rattle.cache_definitions.specs.Flags.{FlaggedCache};
 
-    ghost Value = { Spacious CachedSector };
+    ghost Value = { FlaggedCache };
 
     ghost use Rattle.clerk_cache.specs.Kept.{cache_of, AreKept};
 
@@ -99,6 +103,26 @@ fn marks_of(alloc: Global, pieces: &[Chunk<u64, SectorState>]) -> Result<Vec<Mar
     Ok(marks)
 }
 
+// What is kept of a sector that is set, in place of what was.
+fn set_over(old: Option<SectorState>, cover: LockId, dirt: Option<Dirt>) -> SectorState
+    ensures { result ≡ state_set cover dirt old }
+{
+    match old {
+        Some(state) => SectorState {
+            cover,
+            dirt,
+            stays: dirt.is_some() && is_staying(state),
+            flies: state.flies,
+        },
+        None => SectorState {
+            cover,
+            dirt,
+            stays: false,
+            flies: false,
+        },
+    }
+}
+
 // The two are the same block.
 fn is_same(a: &Block, b: &Block) -> bool
     ensures { result ≡ bytes_eq a.now b.now }
@@ -109,7 +133,9 @@ fn is_same(a: &Block, b: &Block) -> bool
 impl Cache {
     /// Nothing cached. It takes no memory.
     pub fn new(alloc: Global) -> Cache
-        ensures { result.entries ≡ [] }
+        ensures entries { result.entries ≡ [] }
+        ensures staying { result.staying ≡ [] }
+        ensures flying { result.flying ≡ [] }
     {
         Cache {
             sectors: Sectors::new(alloc),
@@ -121,6 +147,8 @@ impl Cache {
     /// Makes room for `n` more sectors. Nothing else changes, whatever the answer. It takes no memory where there is that room.
     pub fn reserve(&mut self, n: usize) -> Result<(), NoMemory>
         ensures entries { self.new.entries ≡ self.old.entries }
+        ensures staying { self.new.staying ≡ self.old.staying }
+        ensures flying { self.new.flying ≡ self.old.flying }
         ensures ok { OnOk result (n ≤ self.new.spare) }
         ensures sure { n ≤ self.old.spare → IsOk result }
         ensures spare { self.old.spare ≤ self.new.spare }
@@ -143,25 +171,21 @@ impl Cache {
         self.sectors.get(sector)
     }
 
-    // What is kept of a sector beside its block.
-    fn state(&self, sector: Sector) -> Option<SectorState>
-        ensures { result ≡ state_at self.now.entries sector.0 }
-    {
-        self.states.get(sector)
-    }
-
     /// The lock that covers a sector. `None` exactly where the sector isn't cached.
     pub fn cover(&self, sector: Sector) -> Option<LockId>
         ensures { result ≡ cover_at self.now.entries sector.0 }
     {
-        self.state(sector).map(|state| state.cover)
+        match self.states.get(sector) {
+            Some(state) => Some(state.cover),
+            None => None,
+        }
     }
 
     // The dirt of a sector. `None` exactly where it isn't dirty.
     fn dirt(&self, sector: Sector) -> Option<Dirt>
         ensures { result ≡ option_and_then (λ cached. cached.dirt) (value_at self.now.entries sector.0) }
     {
-        match self.state(sector) {
+        match self.states.get(sector) {
             Some(state) => state.dirt,
             None => None,
         }
@@ -187,32 +211,50 @@ impl Cache {
         }
     }
 
-    // Caches a sector with this block and the rest.
-    fn set(&mut self, sector: Sector, block: Block, state: SectorState)
-        requires { room_for self.old.entries sector.0 ≤ self.old.spare }
-        ensures entries { self.new.entries ≡ with_value self.old.entries sector.0 (cached_of block state) }
-        ensures spare { self.new.spare + room_for self.old.entries sector.0 ≡ self.old.spare }
+    /// The sector stays wanted until it is clean. It is dirty then.
+    pub fn stays(&self, sector: Sector) -> bool
+        ensures stays { result ≡ member sector.0 self.now.staying }
+        ensures dirty { result ≡ true → is_dirty_at self.now.entries sector.0 ≡ true }
     {
-        self.sectors.put(sector, block);
-        self.states.put(self.sectors.last_place(), sector, state);
+        match self.states.get(sector) {
+            Some(state) => is_staying(state),
+            None => false,
+        }
     }
 
-    // Keeps this beside the block of a cached sector, which is looked for at a place first.
-    fn set_state(&mut self, near: Option<Place>, sector: Sector, state: SectorState)
-        requires { IsSome (value_at self.old.entries sector.0) }
-        ensures entries { self.new.entries ≡ adjusted (λ cached. cached_of cached.block state) self.old.entries sector.0 }
-        ensures spare { self.new.spare ≡ self.old.spare }
+    /// The sector is cached, and a write of it is in flight.
+    pub fn flies(&self, sector: Sector) -> bool
+        ensures { result ≡ member sector.0 self.now.flying }
     {
-        self.states.put(near, sector, state);
+        match self.states.get(sector) {
+            Some(state) => state.flies,
+            None => false,
+        }
+    }
+
+    // Caches a sector with this block, cover and dirt. Its flags stay, but that a clean sector doesn't stay wanted.
+    fn set(&mut self, sector: Sector, block: Block, cover: LockId, dirt: Option<Dirt>)
+        requires { room_for self.old.entries sector.0 ≤ self.old.spare }
+        ensures entries { self.new.entries ≡ with_value self.old.entries sector.0 (record { block = block; cover = cover; dirt = dirt }) }
+        ensures clean { dirt ≡ None → self.new.staying ≡ but sector.0 self.old.staying }
+        ensures dirty { IsSome dirt → self.new.staying ≡ self.old.staying }
+        ensures flying { self.new.flying ≡ self.old.flying }
+        ensures spare { self.new.spare + room_for self.old.entries sector.0 ≡ self.old.spare }
+    {
+        let state = set_over(self.states.get(sector), cover, dirt);
+        self.sectors.put(sector, block);
+        self.states.put(self.sectors.last_place(), sector, state);
     }
 
     /// Caches a sector as the disk has it, under this lock. The sector is cached already, or there is room. It takes no memory.
     pub fn set_clean(&mut self, sector: Sector, block: Block, cover: LockId)
         requires { room_for self.old.entries sector.0 ≤ self.old.spare }
         ensures entries { self.new.entries ≡ with_value self.old.entries sector.0 (clean block cover) }
+        ensures staying { self.new.staying ≡ but sector.0 self.old.staying }
+        ensures flying { self.new.flying ≡ self.old.flying }
         ensures spare { self.new.spare + room_for self.old.entries sector.0 ≡ self.old.spare }
     {
-        self.set(sector, block, SectorState { cover, dirt: None });
+        self.set(sector, block, cover, None);
     }
 
     /// Caches a sector of file bytes that the disk doesn't have yet, with this mark and under this lock. The sector is cached already,
@@ -220,13 +262,15 @@ impl Cache {
     pub fn set_bytes(&mut self, sector: Sector, block: Block, mark: u64, cover: LockId)
         requires { room_for self.old.entries sector.0 ≤ self.old.spare }
         ensures entries { self.new.entries ≡ with_value self.old.entries sector.0 (dirty block cover mark true) }
+        ensures staying { self.new.staying ≡ self.old.staying }
+        ensures flying { self.new.flying ≡ self.old.flying }
         ensures spare { self.new.spare + room_for self.old.entries sector.0 ≡ self.old.spare }
     {
         let dirt = Some(Dirt {
             mark,
             is_bytes: true,
         });
-        self.set(sector, block, SectorState { cover, dirt });
+        self.set(sector, block, cover, dirt);
     }
 
     /// Caches a sector of metadata as zeros that the disk doesn't have yet, with this mark and under this lock, whatever was cached of
@@ -234,13 +278,15 @@ impl Cache {
     pub fn set_zeros(&mut self, sector: Sector, mark: u64, cover: LockId)
         requires { room_for self.old.entries sector.0 ≤ self.old.spare }
         ensures entries { self.new.entries ≡ with_value self.old.entries sector.0 (dirty zero_block cover mark false) }
+        ensures staying { self.new.staying ≡ self.old.staying }
+        ensures flying { self.new.flying ≡ self.old.flying }
         ensures spare { self.new.spare + room_for self.old.entries sector.0 ≡ self.old.spare }
     {
         let dirt = Some(Dirt {
             mark,
             is_bytes: false,
         });
-        self.set(sector, zero_block(), SectorState { cover, dirt });
+        self.set(sector, zero_block(), cover, dirt);
     }
 
     /// Lays a change over its sector, which is cached and older than the change. The sector is then dirty metadata with this mark, and
@@ -249,20 +295,25 @@ impl Cache {
         requires well_formed { is_change change.now ≡ true }
         requires older { IsOlder (block_at self.old.entries change.now.sector.0) change.now }
         ensures entries { self.new.entries ≡ with_change self.old.entries change.now mark cover }
+        ensures staying { self.new.staying ≡ self.old.staying }
+        ensures flying { self.new.flying ≡ self.old.flying }
         ensures spare { self.new.spare ≡ self.old.spare }
     {
         self.sectors.change(change);
-        let dirt = Some(Dirt {
+        let dirt = Dirt {
             mark,
             is_bytes: false,
-        });
+        };
         let near = self.sectors.last_place();
-        self.set_state(near, change.sector, SectorState { cover, dirt });
+        self.states
+            .edit(near, change.sector, &Changed { cover, dirt });
     }
 
     /// The sector isn't cached afterwards, whether it was dirty or not. It takes no memory.
     pub fn forget(&mut self, sector: Sector)
         ensures entries { self.new.entries ≡ without self.old.entries sector.0 }
+        ensures staying { self.new.staying ≡ but sector.0 self.old.staying }
+        ensures flying { self.new.flying ≡ but sector.0 self.old.flying }
         ensures spare { self.old.spare ≤ self.new.spare }
     {
         self.forget_near(None, sector);
@@ -271,6 +322,9 @@ impl Cache {
     // The same, looking for the sector at a place first, and then from there on.
     fn forget_near(&mut self, near: Option<Place>, sector: Sector)
         ensures entries { self.new.entries ≡ without self.old.entries sector.0 }
+        ensures staying { self.new.staying ≡ but sector.0 self.old.staying }
+        ensures flying { self.new.flying ≡ but sector.0 self.old.flying }
+        ensures clean { is_dirty_at self.old.entries sector.0 ≡ false → self.new.staying ≡ self.old.staying }
         ensures spare { self.old.spare ≤ self.new.spare }
     {
         self.sectors.remove_near(near, sector);
@@ -281,6 +335,8 @@ impl Cache {
     /// is looked for from where the one before it lay.
     pub fn forget_all(&mut self, sectors: &[Sector])
         ensures entries { self.new.entries ≡ forgotten self.old.entries (numbers_of sectors.now) }
+        ensures staying { self.new.staying ≡ but_all (numbers_of sectors.now) self.old.staying }
+        ensures flying { self.new.flying ≡ but_all (numbers_of sectors.now) self.old.flying }
         ensures spare { self.old.spare ≤ self.new.spare }
     {
         for sector in sectors {
@@ -292,6 +348,8 @@ impl Cache {
     /// The sector was written as this block: it is no longer dirty where it still holds that block. It takes no memory.
     pub fn clean(&mut self, sector: Sector, block: &Block)
         ensures entries { self.new.entries ≡ with_written self.old.entries sector.0 block.now }
+        ensures staying { self.new.staying ≡ (if still_has self.old.entries sector.0 block.now then but sector.0 self.old.staying else self.old.staying) }
+        ensures flying { self.new.flying ≡ self.old.flying }
         ensures spare { self.new.spare ≡ self.old.spare }
     {
         match self.held_at(sector, block) {
@@ -319,9 +377,11 @@ impl Cache {
     // The sector isn't dirty afterwards, where it is cached. It is looked for at a place first.
     fn mark_clean(&mut self, place: Place, sector: Sector)
         ensures entries { self.new.entries ≡ cleaned self.old.entries sector.0 }
+        ensures staying { self.new.staying ≡ but sector.0 self.old.staying }
+        ensures flying { self.new.flying ≡ self.old.flying }
         ensures spare { self.new.spare ≡ self.old.spare }
     {
-        self.states.clean(Some(place), sector);
+        self.states.edit(Some(place), sector, &Cleaned);
     }
 
     /// The dirty sectors with their marks, ascending by sector.
@@ -337,6 +397,57 @@ impl Cache {
         ensures { result ≡ next_reached (marks_of self.now.entries) reached }
     {
         sector_reached(self.states.first_mark(), reached)
+    }
+
+    /// The dirty sector without a write in flight with the least mark, of one mark the least sector, where that mark is at most `reached`.
+    /// It takes no memory.
+    pub fn next_idle(&self, reached: u64) -> Option<Sector>
+        ensures { result ≡ next_reached (idle_marks_of is_one self.now) reached }
+    {
+        sector_reached(self.states.first_idle(), reached)
+    }
+
+    /// The same, among those of file bytes.
+    pub fn next_bytes(&self, reached: u64) -> Option<Sector>
+        ensures { result ≡ next_reached (idle_marks_of is_one_of_bytes self.now) reached }
+    {
+        sector_reached(self.states.first_bytes(), reached)
+    }
+
+    /// The same, among those that stay wanted.
+    pub fn next_staying(&self, reached: u64) -> Option<Sector>
+        ensures { result ≡ next_reached (idle_marks_of (is_one_staying self.now.staying) self.now) reached }
+    {
+        sector_reached(self.states.first_staying(), reached)
+    }
+
+    /// The same, among those under a lock.
+    pub fn next_under(&self, lock: LockId, reached: u64) -> Option<Sector>
+        ensures { result ≡ next_reached (idle_marks_of (is_one_under lock) self.now) reached }
+    {
+        sector_reached(self.states.first_waiting(lock), reached)
+    }
+
+    /// A write of a sector is in flight, or no longer: where the sector is cached, that is kept of it. It takes no memory.
+    pub fn set_flies(&mut self, sector: Sector, flies: bool)
+        ensures entries { self.new.entries ≡ self.old.entries }
+        ensures staying { self.new.staying ≡ self.old.staying }
+        ensures flying { self.new.flying ≡ (if flies then with_cached self.old.entries sector.0 self.old.flying else but sector.0 self.old.flying) }
+        ensures spare { self.new.spare ≡ self.old.spare }
+    {
+        self.states.edit(None, sector, &Flown { flies });
+    }
+
+    /// All that is dirty stays wanted from now on, each sector until it is clean; what stayed so is among that. It takes no memory, and time
+    /// proportional to how many are dirty that don't stay wanted yet: a flag is set on each of them, so that a sector costs it once from
+    /// when it gets dirty until it is clean.
+    pub fn want_all(&mut self)
+        ensures entries { self.new.entries ≡ self.old.entries }
+        ensures staying { self.new.staying ≡ dirty_sectors self.old.entries }
+        ensures flying { self.new.flying ≡ self.old.flying }
+        ensures spare { self.new.spare ≡ self.old.spare }
+    {
+        self.states.want_all();
     }
 
     /// No sector under this lock is dirty: exactly then `drop_cover` answers `Ok`.
@@ -357,18 +468,18 @@ impl Cache {
     pub fn move_cover(&mut self, sector: Sector, cover: LockId)
         requires { IsSome (value_at self.old.entries sector.0) }
         ensures entries { self.new.entries ≡ with_cover self.old.entries sector.0 cover }
+        ensures staying { self.new.staying ≡ self.old.staying }
+        ensures flying { self.new.flying ≡ self.old.flying }
         ensures spare { self.new.spare ≡ self.old.spare }
     {
-        match self.state(sector) {
-            Some(state) => self.set_state(None, sector, SectorState { cover, ..state }),
-            None => unreachable!(),
-        }
+        self.states.edit(None, sector, &Moved { cover });
     }
 
     // The first sector under a lock.
     fn first_under(&self, lock: LockId) -> Option<u64>
         ensures sector { result ≡ first_cached (is_under lock) self.now.entries }
         ensures ordered { Ascend self.now.entries }
+        ensures flying { self.now.flying ≡ among_cached self.now.entries self.now.flying }
     {
         self.states.first_under(lock)
     }
@@ -382,7 +493,10 @@ impl Cache {
 
     // Drops the sectors under a lock, in one pass: they ascend, and each is looked for from where the one before it lay.
     fn drop_all(&mut self, lock: LockId)
+        requires { any_cached (is_dirty_under lock) self.old.entries ≡ false }
         ensures entries { self.new.entries ≡ dropped self.old.entries lock }
+        ensures staying { self.new.staying ≡ self.old.staying }
+        ensures flying { self.new.flying ≡ among_cached self.new.entries self.old.flying }
         ensures spare { self.old.spare ≤ self.new.spare }
     {
         while let Some(sector) = self.first_under(lock) {
@@ -395,6 +509,9 @@ impl Cache {
     /// freed sectors are under their segment's lock. The cache is then unchanged. It takes no memory.
     pub fn drop_cover(&mut self, lock: LockId) -> Result<(), Dirty>
         ensures outcome { DropOutcome lock self.old.entries self.new.entries result }
+        ensures staying { self.new.staying ≡ self.old.staying }
+        ensures flying { OnOk result (self.new.flying ≡ among_cached self.new.entries self.old.flying) }
+        ensures unchanged { OnErr result (self.new ≡ self.old) }
         ensures spare { self.old.spare ≤ self.new.spare }
     {
         if let Some(sector) = self.first_dirty(lock) {

@@ -1,16 +1,17 @@
-// What is kept beside the blocks, and the sectors in order of their marks and covers.
+// What is kept beside the blocks, and the sectors in orders of their marks and covers.
 ghost use Rattle.std.specs.Prelude.{◌≡◌, ◌+◌, ◌<◌, ◌≤◌, [], length, IsOk, OnOk};
-ghost use Rattle.sector_bytes.specs.SectorMaps.{value_at, with_value, without, adjusted, room_for};
+ghost use Rattle.sector_bytes.specs.SectorMaps.{value_at, with_value, without, adjusted, room_for, Ascend};
 ghost use Rattle.flush_order.specs.Marks.{least, first_mark};
 ghost use Rattle.ordered_map.specs.Chunks.{joined};
-ghost use Rattle.clerk_cache.specs.Kept.{clean_state, first_state, is_state_dirty_under, is_state_under, state_marks};
+ghost use Rattle.clerk_cache.specs.Kept.{all_wanted, first_state, is_idle, is_idle_bytes, is_idle_staying, is_idle_under, is_state_dirty_under, is_state_fresh, is_state_under, passing_marks, state_marks};
 
 use crate::covered::{Covered, first_of};
+use crate::covered_mark::{CoveredMark, first_mark_of};
 use crate::keys::{exchange, reserve, take_out};
-use crate::state::{Cleaned, SectorState, keys_of};
+use crate::state::{SectorState, Wanted, keys_of};
 use flush_order::Mark;
 use frang_base::{LockId, NoMemory, Sector};
-use ordered_map::{Chunk, OrderedMap, Place};
+use ordered_map::{Chunk, Edit, OrderedMap, Place};
 use std::alloc::Global;
 use std::marker::Model;
 
@@ -22,10 +23,20 @@ pub(crate) struct States {
     states: OrderedMap<u64, SectorState>,
     // The dirty sectors with their marks.
     marks: OrderedMap<Mark, ()>,
+    // Of these the ones without a write in flight.
+    idle: OrderedMap<Mark, ()>,
+    // Of those the file bytes.
+    bytes: OrderedMap<Mark, ()>,
+    // Of those without a write in flight the ones that stay wanted.
+    staying: OrderedMap<Mark, ()>,
+    // The dirty sectors that don't stay wanted, with their marks.
+    fresh: OrderedMap<Mark, ()>,
     // All sectors with their covers.
     covers: OrderedMap<Covered, ()>,
     // The dirty sectors with their covers.
     dirty: OrderedMap<Covered, ()>,
+    // The dirty sectors without a write in flight with their covers and marks.
+    waiting: OrderedMap<CoveredMark, ()>,
 }
 
 impl Model for States {
@@ -34,11 +45,11 @@ impl Model for States {
 
     ghost Value = { Spacious SectorState };
 
-    ghost use Rattle.clerk_cache.specs.Indexing.{states_of, AreIndexed};
+    ghost use Rattle.clerk_cache.specs.Indexing.{most_of_all, states_of, AreIndexed};
 
-    ghost view = { λ s. states_of s.states s.marks s.covers s.dirty };
+    ghost view = { λ s. states_of s.states (most_of_all s.states s.marks s.idle s.bytes s.staying s.fresh s.covers s.dirty s.waiting) };
 
-    ghost invariant = { λ s. AreIndexed s.states.entries s.marks s.covers s.dirty };
+    ghost invariant = { λ s. AreIndexed s.states.entries (most_of_all s.states s.marks s.idle s.bytes s.staying s.fresh s.covers s.dirty s.waiting) s.marks.entries s.idle.entries s.bytes.entries s.staying.entries s.fresh.entries s.covers.entries s.dirty.entries s.waiting.entries };
 }
 
 // The first of the marks.
@@ -59,8 +70,13 @@ impl States {
         States {
             states: OrderedMap::new(alloc),
             marks: OrderedMap::new(alloc),
+            idle: OrderedMap::new(alloc),
+            bytes: OrderedMap::new(alloc),
+            staying: OrderedMap::new(alloc),
+            fresh: OrderedMap::new(alloc),
             covers: OrderedMap::new(alloc),
             dirty: OrderedMap::new(alloc),
+            waiting: OrderedMap::new(alloc),
         }
     }
 
@@ -73,7 +89,8 @@ impl States {
 
     /// What is kept of a sector.
     pub(crate) fn get(&self, sector: Sector) -> Option<SectorState>
-        ensures { result ≡ value_at self.now.entries sector.0 }
+        ensures value { result ≡ value_at self.now.entries sector.0 }
+        ensures ordered { Ascend self.now.entries }
     {
         self.states.get(&sector.0).copied()
     }
@@ -83,6 +100,42 @@ impl States {
         ensures { result ≡ least (state_marks self.now.entries) }
     {
         first_mark(&self.marks)
+    }
+
+    /// The least mark of the dirty sectors without a write in flight.
+    pub(crate) fn first_idle(&self) -> Option<Mark>
+        ensures { result ≡ least (passing_marks is_idle self.now.entries) }
+    {
+        first_mark(&self.idle)
+    }
+
+    /// The same, of those of file bytes.
+    pub(crate) fn first_bytes(&self) -> Option<Mark>
+        ensures { result ≡ least (passing_marks is_idle_bytes self.now.entries) }
+    {
+        first_mark(&self.bytes)
+    }
+
+    /// The same, of those that stay wanted.
+    pub(crate) fn first_staying(&self) -> Option<Mark>
+        ensures { result ≡ least (passing_marks is_idle_staying self.now.entries) }
+    {
+        first_mark(&self.staying)
+    }
+
+    /// The same, of those under a lock.
+    pub(crate) fn first_waiting(&self, lock: LockId) -> Option<Mark>
+        ensures { result ≡ least (passing_marks (is_idle_under lock) self.now.entries) }
+    {
+        first_mark_of(&self.waiting, lock)
+    }
+
+    /// The least mark of the dirty sectors that don't stay wanted.
+    pub(crate) fn first_fresh(&self) -> Option<Mark>
+        ensures mark { result ≡ least (passing_marks is_state_fresh self.now.entries) }
+        ensures ordered { Ascend self.now.entries }
+    {
+        first_mark(&self.fresh)
     }
 
     /// The first sector under a lock. It is looked for first from where the last one lay that was removed.
@@ -108,10 +161,20 @@ impl States {
         ensures spare { self.old.spare ≤ self.new.spare }
     {
         let held = self.states.count();
-        self.states.reserve(n)?;
-        reserve(&mut self.marks, held, n)?;
-        reserve(&mut self.covers, held, n)?;
-        reserve(&mut self.dirty, held, n)
+        let states = self.states.reserve(n).is_ok();
+        let marks = reserve(&mut self.marks, held, n).is_ok();
+        let idle = reserve(&mut self.idle, held, n).is_ok();
+        let bytes = reserve(&mut self.bytes, held, n).is_ok();
+        let staying = reserve(&mut self.staying, held, n).is_ok();
+        let fresh = reserve(&mut self.fresh, held, n).is_ok();
+        let covers = reserve(&mut self.covers, held, n).is_ok();
+        let dirty = reserve(&mut self.dirty, held, n).is_ok();
+        let waiting = reserve(&mut self.waiting, held, n).is_ok();
+        if states && marks && idle && bytes && staying && fresh && covers && dirty && waiting {
+            Ok(())
+        } else {
+            Err(NoMemory)
+        }
     }
 
     /// Keeps this of a sector, of which something is kept or for which there is room. It takes no memory.
@@ -123,23 +186,43 @@ impl States {
         let old = keys_of(sector, self.states.replace_near(near, sector.0, state));
         let new = keys_of(sector, Some(state));
         exchange(&mut self.marks, old.mark, new.mark);
+        exchange(&mut self.idle, old.idle, new.idle);
+        exchange(&mut self.bytes, old.bytes, new.bytes);
+        exchange(&mut self.staying, old.staying, new.staying);
+        exchange(&mut self.fresh, old.fresh, new.fresh);
         exchange(&mut self.covers, old.cover, new.cover);
         exchange(&mut self.dirty, old.dirty, new.dirty);
+        exchange(&mut self.waiting, old.waiting, new.waiting);
     }
 
-    /// The sector isn't dirty afterwards, where something is kept of it. It takes no memory.
-    pub(crate) fn clean(&mut self, near: Option<Place>, sector: Sector)
-        ensures entries { self.new.entries ≡ adjusted clean_state self.old.entries sector.0 }
+    /// Edits what is kept of a sector, where something is. It takes no memory.
+    pub(crate) fn edit<E: Edit<SectorState>>(
+        &mut self,
+        near: Option<Place>,
+        sector: Sector,
+        edit: &E,
+    )
+        ensures entries { self.new.entries ≡ adjusted (E.edited edit.now) self.old.entries sector.0 }
         ensures spare { self.new.spare ≡ self.old.spare }
     {
-        match self.states.update(near, &sector.0, &Cleaned) {
+        match self.get(sector) {
             Some(state) => {
-                let old = keys_of(sector, Some(state));
-                let last = self.marks.last_place();
-                take_out(&mut self.marks, last, old.mark);
-                take_out(&mut self.dirty, None, old.dirty);
+                let mut edited = state;
+                edit.edit(&mut edited);
+                self.put(near, sector, edited);
             }
             None => {}
+        }
+    }
+
+    /// Each dirty sector stays wanted from now on. It takes no memory, and time proportional to how many are dirty that don't stay wanted
+    /// yet, so that a sector costs it once from when it gets dirty until it is clean.
+    pub(crate) fn want_all(&mut self)
+        ensures entries { self.new.entries ≡ all_wanted self.old.entries }
+        ensures spare { self.new.spare ≡ self.old.spare }
+    {
+        while let Some(mark) = self.first_fresh() {
+            self.edit(None, mark.sector, &Wanted);
         }
     }
 
@@ -152,7 +235,12 @@ impl States {
         let old = keys_of(sector, self.states.take_near(near, &sector.0));
         let last = self.covers.last_place();
         take_out(&mut self.marks, None, old.mark);
+        take_out(&mut self.idle, None, old.idle);
+        take_out(&mut self.bytes, None, old.bytes);
+        take_out(&mut self.staying, None, old.staying);
+        take_out(&mut self.fresh, None, old.fresh);
         take_out(&mut self.covers, last, old.cover);
         take_out(&mut self.dirty, None, old.dirty);
+        take_out(&mut self.waiting, None, old.waiting);
     }
 }

@@ -25,6 +25,71 @@ struct Entry {
     mark: Option<u64>,
     // Where there is a mark: one of file bytes.
     is_bytes: bool,
+    // Where there is a mark: it stays wanted.
+    stays: bool,
+    flies: bool,
+}
+
+impl Entry {
+    // Without flags.
+    fn new(
+        sector: Sector,
+        block: Block,
+        cover: LockId,
+        mark: Option<u64>,
+        is_bytes: bool,
+    ) -> Entry {
+        Entry {
+            sector,
+            block,
+            cover,
+            mark,
+            is_bytes,
+            stays: false,
+            flies: false,
+        }
+    }
+
+    // Dirty, and written for this cause.
+    fn is_next(&self, cause: Cause) -> bool {
+        match cause {
+            Cause::Dirty => true,
+            Cause::Idle => !self.flies,
+            Cause::Bytes => !self.flies && self.is_bytes,
+            Cause::Staying => !self.flies && self.stays,
+            Cause::Under(lock) => !self.flies && self.cover == lock,
+        }
+    }
+}
+
+// Which of the dirty sectors is asked for: one of all, or of those without a write in flight, and of these of the file bytes, of those that
+// stay wanted or of those under a lock.
+#[derive(Clone, Copy)]
+enum Cause {
+    Dirty,
+    Idle,
+    Bytes,
+    Staying,
+    Under(LockId),
+}
+
+static CAUSES: [Cause; 6] = [
+    Cause::Dirty,
+    Cause::Idle,
+    Cause::Bytes,
+    Cause::Staying,
+    Cause::Under(LockId::Segment(0)),
+    Cause::Under(LockId::Node(1)),
+];
+
+fn next_of(cache: &Cache, cause: Cause, reached: u64) -> Option<Sector> {
+    match cause {
+        Cause::Dirty => cache.next_dirty(reached),
+        Cause::Idle => cache.next_idle(reached),
+        Cause::Bytes => cache.next_bytes(reached),
+        Cause::Staying => cache.next_staying(reached),
+        Cause::Under(lock) => cache.next_under(lock, reached),
+    }
 }
 
 // The sector is below the least one so far.
@@ -63,10 +128,31 @@ impl PlainCache {
         self.entries.retain(|entry| entry.sector != sector);
     }
 
+    // Its flags stay, but that a clean sector doesn't stay wanted.
     fn set(&mut self, entry: Entry) -> Result<(), NoMemory> {
+        let flags = self.entry(entry.sector).map(|old| (old.stays, old.flies));
+        let (stays, flies) = flags.unwrap_or((false, false));
         self.forget(entry.sector);
-        self.entries.push(entry)?;
+        self.entries.push(Entry {
+            stays: stays && entry.mark.is_some(),
+            flies,
+            ..entry
+        })?;
         Ok(())
+    }
+
+    fn want_all(&mut self) {
+        for entry in &mut self.entries {
+            entry.stays = entry.mark.is_some();
+        }
+    }
+
+    fn set_flies(&mut self, sector: Sector, flies: bool) {
+        for entry in &mut self.entries {
+            if entry.sector == sector {
+                entry.flies = flies;
+            }
+        }
     }
 
     fn clean(&mut self, sector: Sector, block: &Block) -> Result<(), NoMemory> {
@@ -88,13 +174,7 @@ impl PlainCache {
             Some(entry) if is_change(change) => {
                 let mut block = entry.block;
                 let _ = apply(&mut block, change);
-                self.set(Entry {
-                    sector: change.sector,
-                    block,
-                    cover,
-                    mark: Some(mark),
-                    is_bytes: false,
-                })
+                self.set(Entry::new(change.sector, block, cover, Some(mark), false))
             }
             _ => Ok(()),
         }
@@ -140,12 +220,13 @@ impl PlainCache {
         Ok(())
     }
 
-    // The sector with the least mark, of one mark the least, where it is reached.
-    fn next_dirty(&self, reached: u64) -> Option<Sector> {
+    // The sector with the least mark of a cause, of one mark the least, where it is reached.
+    fn next_of(&self, cause: Cause, reached: u64) -> Option<Sector> {
         let mut first: Option<(u64, Sector)> = None;
         for entry in &self.entries {
             if let Some(mark) = entry.mark
                 && mark <= reached
+                && entry.is_next(cause)
                 && is_before(mark, entry.sector, first)
             {
                 first = Some((mark, entry.sector));
@@ -212,6 +293,16 @@ impl Both {
         self.plain.clean(sector, block)
     }
 
+    fn want_all(&mut self) {
+        self.cache.want_all();
+        self.plain.want_all();
+    }
+
+    fn set_flies(&mut self, sector: Sector, flies: bool) {
+        self.cache.set_flies(sector, flies);
+        self.plain.set_flies(sector, flies);
+    }
+
     fn forget(&mut self, sector: Sector) {
         self.cache.forget(sector);
         self.plain.forget(sector);
@@ -244,14 +335,23 @@ impl Both {
         let cover = self.cache.cover(sector);
         let mark = self.cache.mark(sector);
         let is_bytes = self.cache.is_bytes(sector);
+        let stays = self.cache.stays(sector);
+        let flies = self.cache.flies(sector);
         match self.plain.entry(sector) {
             Some(entry) => {
                 cached == Some(&entry.block)
                     && cover == Some(entry.cover)
                     && mark == entry.mark
                     && is_bytes == entry.is_bytes
+                    && stays == entry.stays
+                    && flies == entry.flies
             }
-            None => cached.is_none() && cover.is_none() && mark.is_none() && !is_bytes,
+            None => {
+                cached.is_none()
+                    && cover.is_none()
+                    && mark.is_none()
+                    && !(is_bytes || stays || flies)
+            }
         }
     }
 
@@ -270,7 +370,17 @@ impl Both {
             return false;
         }
         for reached in 0..MARKS {
-            if self.cache.next_dirty(reached) != self.plain.next_dirty(reached) {
+            if !self.are_next_alike(reached) {
+                return false;
+            }
+        }
+        true
+    }
+
+    // The same sector is next, for each cause.
+    fn are_next_alike(&self, reached: u64) -> bool {
+        for cause in &CAUSES {
+            if next_of(&self.cache, *cause, reached) != self.plain.next_of(*cause, reached) {
                 return false;
             }
         }
@@ -279,27 +389,15 @@ impl Both {
 
     // A drawn call of both; false where they answer differently.
     fn call(&mut self, draws: &mut Draws) -> Result<bool, NoMemory> {
-        let kind = draws.draw() % 10;
+        let kind = draws.draw() % 14;
         let number = draws.draw() % SECTORS;
         let sector = Sector(number);
         let cover = lock_of(draws.draw() % 8);
         let n = draws.draw() % MARKS;
         let block = small_block(1, n as u8);
         match kind {
-            0 => self.set(Entry {
-                sector,
-                block,
-                cover,
-                mark: None,
-                is_bytes: false,
-            })?,
-            1 | 2 => self.set(Entry {
-                sector,
-                block,
-                cover,
-                mark: Some(n),
-                is_bytes: true,
-            })?,
+            0 => self.set(Entry::new(sector, block, cover, None, false))?,
+            1 | 2 => self.set(Entry::new(sector, block, cover, Some(n), true))?,
             3 => self.clean(sector, &block)?,
             4 => self.forget(sector),
             5 => self.move_cover(sector, cover)?,
@@ -308,13 +406,13 @@ impl Both {
                 self.change(&change, n, cover)?;
             }
             7 => self.forget_all(&[Sector(n), sector]),
-            8 => self.set(Entry {
-                sector,
-                block: small_block(0, 0),
-                cover,
-                mark: Some(n),
-                is_bytes: false,
-            })?,
+            8 => {
+                let zeros = small_block(0, 0);
+                self.set(Entry::new(sector, zeros, cover, Some(n), false))?;
+            }
+            9 => self.want_all(),
+            10 | 11 => self.set_flies(sector, true),
+            12 => self.set_flies(sector, false),
             _ => return Ok(self.drop_cover(cover)),
         }
         Ok(self.is_alike(sector))

@@ -26,6 +26,16 @@ enum Step {
     Dirty(&'static [Mark]),
     // The next one, where the log stands so far.
     Next(u64, Option<Sector>),
+    // The next one without a write in flight: of all, of file bytes, of those that stay wanted, under a lock.
+    NextIdle(u64, Option<Sector>),
+    NextBytes(u64, Option<Sector>),
+    NextStaying(u64, Option<Sector>),
+    NextUnder(LockId, u64, Option<Sector>),
+    // The sector stays wanted, or a write of it is in flight.
+    Stays(u64, bool),
+    Flies(u64, bool),
+    WantAll,
+    SetFlies(u64, bool),
     IsClean(LockId, bool),
     // No sector is dirty.
     IsAllClean(bool),
@@ -114,6 +124,16 @@ fn try_move(cache: &mut Cache, sector: Sector, cover: LockId) -> bool {
     }
 }
 
+fn want_all(cache: &mut Cache) -> bool {
+    cache.want_all();
+    true
+}
+
+fn set_flies(cache: &mut Cache, sector: u64, flies: bool) -> bool {
+    cache.set_flies(Sector(sector), flies);
+    true
+}
+
 fn has_dirty(cache: &Cache, marks: &[Mark]) -> Result<bool, NoMemory> {
     Ok(cache.dirty()?.as_slice() == marks)
 }
@@ -138,6 +158,14 @@ fn is_answered(cache: &mut Cache, alloc: Global, step: Step) -> Result<bool, NoM
         Step::IsUnder(sector, cover) => cache.cover(Sector(sector)) == cover,
         Step::Dirty(marks) => has_dirty(cache, marks)?,
         Step::Next(reached, next) => cache.next_dirty(reached) == next,
+        Step::NextIdle(reached, next) => cache.next_idle(reached) == next,
+        Step::NextBytes(reached, next) => cache.next_bytes(reached) == next,
+        Step::NextStaying(reached, next) => cache.next_staying(reached) == next,
+        Step::NextUnder(lock, reached, next) => cache.next_under(lock, reached) == next,
+        Step::Stays(sector, is_so) => cache.stays(Sector(sector)) == is_so,
+        Step::Flies(sector, is_so) => cache.flies(Sector(sector)) == is_so,
+        Step::WantAll => want_all(cache),
+        Step::SetFlies(sector, flies) => set_flies(cache, sector, flies),
         Step::IsClean(lock, is_so) => cache.is_clean(lock) == is_so,
         Step::IsAllClean(is_so) => cache.is_all_clean() == is_so,
         Step::HasMark(sector, mark) => cache.mark(Sector(sector)) == mark,
@@ -278,6 +306,59 @@ static OF_BOTH_KINDS: [Step; 20] = [
 #[test]
 fn a_dirty_sector_is_one_of_bytes_or_not(rt: HostRuntime) -> Result<(), Fail> {
     expect(&rt, rt.alloc(), &OF_BOTH_KINDS)
+}
+
+// What is dirty when all is wanted stays so through a change, until it is clean or forgotten; what gets dirty afterwards doesn't.
+static WANTED: [Step; 18] = [
+    Step::SetZeros(5, 257),
+    Step::SetBytes(4, (0, 41), 258),
+    Step::NextStaying(300, None),
+    Step::WantAll,
+    Step::Stays(3, false),
+    Step::Stays(4, true),
+    Step::NextStaying(300, Some(Sector(5))),
+    Step::Change(3, (2, 31), 256, true),
+    Step::NextIdle(300, Some(Sector(3))),
+    Step::NextStaying(300, Some(Sector(5))),
+    Step::Change(5, (1, 51), 259, true),
+    Step::Stays(5, true),
+    Step::NextStaying(300, Some(Sector(4))),
+    Step::Forget(4),
+    Step::Stays(4, false),
+    Step::Clean(5, (1, 51)),
+    Step::Stays(5, false),
+    Step::NextStaying(300, None),
+];
+
+#[test]
+fn what_is_wanted_stays_so_until_it_is_clean(rt: HostRuntime) -> Result<(), Fail> {
+    expect(&rt, rt.alloc(), &WANTED)
+}
+
+// A sector with a write in flight is dirty, and isn't next.
+static FLYING: [Step; 17] = [
+    Step::SetBytes(4, (0, 41), 258),
+    Step::SetZeros(5, 257),
+    Step::Move(5, SEGMENT),
+    Step::NextBytes(300, Some(Sector(4))),
+    Step::NextUnder(NODE, 300, Some(Sector(4))),
+    Step::NextUnder(SEGMENT, 256, None),
+    Step::NextUnder(SEGMENT, 257, Some(Sector(5))),
+    Step::SetFlies(5, true),
+    Step::Flies(5, true),
+    Step::NextUnder(SEGMENT, 300, None),
+    Step::NextIdle(300, Some(Sector(4))),
+    Step::Next(300, Some(Sector(5))),
+    Step::SetFlies(5, false),
+    Step::NextIdle(300, Some(Sector(5))),
+    Step::SetFlies(4, true),
+    Step::Forget(4),
+    Step::Flies(4, false),
+];
+
+#[test]
+fn a_sector_with_a_write_in_flight_is_not_next(rt: HostRuntime) -> Result<(), Fail> {
+    expect(&rt, rt.alloc(), &FLYING)
 }
 
 static DIRTY: [Mark; 2] = [

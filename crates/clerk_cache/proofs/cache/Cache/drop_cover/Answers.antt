@@ -10,3 +10,6 @@ returns-in-Some-clause-outcome c = (sym c.in-Some.ensures, refl)
 pub returns-clause-outcome : goal.returns-clause-outcome
 returns-clause-outcome c =
     (any_first (is_dirty_under c.args.lock) c.args.self.now.entries ∙ ap is_some (sym c.in_default.ensures), c.drop_all.ensures.entries)
+
+pub drop_all-requires : goal.drop_all-requires
+drop_all-requires c = any_first (is_dirty_under c.args.lock) c.args.self.now.entries ∙ ap is_some (sym c.in_default.ensures)
