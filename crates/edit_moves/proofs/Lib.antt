@@ -4,4 +4,4 @@ pub mod Once
 pub mod Found
 pub mod Sectors
 pub mod AtHand
-pub mod Searching
+pub mod Finding

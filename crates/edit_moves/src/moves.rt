@@ -7,7 +7,7 @@ ghost use Rattle.disk_definitions.specs.Store.{is_unused};
 ghost use Rattle.disk_definitions.specs.Moves as covers;
 ghost use Rattle.disk_definitions.specs.Moves.{moved_block, moved_by};
 ghost use Rattle.plan_steps.specs.Edits.{edit_of, edits_of};
-ghost use Rattle.edit_moves.specs.Moves.{has_thing, is_same, lock_by, cover_in, moves_by, thing_said, use_as, with_move};
+ghost use Rattle.edit_moves.specs.Moves.{has_thing, is_same, lock_by, lock_in, cover_in, moves_by, thing_said, use_as, with_move};
 
 use crate::said::{bit_said, large_said, large_taker_of, taker_of, use_said};
 use crate::thing::Thing;
@@ -32,6 +32,18 @@ pub fn moves_of(alloc: Global, edits: &[Edit]) -> Result<Vec<Move>, NoMemory>
     ensures once { IfOk result (λ moved. IsDistinct is_same (map (λ one. one.thing) moved.items)) }
 {
     moves_by_edits(alloc, edits)
+}
+
+/// The lock under which the moves put the sectors of a thing. `None` exactly where none of them is of it.
+pub fn lock_in(moves: &[Move], thing: &Thing) -> Option<LockId>
+    ensures { result ≡ lock_in moves.now thing.now }
+{
+    for one in moves {
+        if thing.is_same(&one.thing) {
+            return Some(one.lock);
+        }
+    }
+    None
 }
 
 // Edit after edit, what it takes or frees.

@@ -1,23 +1,20 @@
 // The nodes at hand that have a block.
-ghost use Rattle.std.specs.Prelude.{◌≡◌, ◌≤◌};
-ghost use Rattle.frang_base.specs.declared.limits.TheConstants.{SEGMENTS_MAX};
+ghost use Rattle.std.specs.Prelude.{◌≡◌};
 ghost use Rattle.disk_definitions.specs.Written.{inode_at_hand};
 ghost use Rattle.disk_definitions.specs.CoversAtHand as covers;
 
 use crate::{has_large, has_small};
 use dir_lookup::{Looked, inode_at};
-use frang_base::limits::SEGMENT_INODES;
 use meta_version::Sectors;
 
-/// The first inode that is cached and has this small block.
-pub(crate) fn small_owner(sectors: &Sectors, segments: u32, block: u32) -> Option<u32>
-    requires { segments ≤ SEGMENTS_MAX }
-    ensures { result ≡ covers.small_owner sectors.now.entries segments block }
+/// The first of these nodes whose inode is cached and has this small block.
+pub(crate) fn small_owner_among(sectors: &Sectors, nodes: &[u32], block: u32) -> Option<u32>
+    ensures { result ≡ covers.small_owner_among sectors.now.entries nodes.now block }
 {
-    for inode in 0..SEGMENT_INODES * segments {
-        let owner = owns_small(sectors, inode, block);
+    for node in nodes {
+        let owner = owns_small(sectors, *node, block);
         if owner {
-            return Some(inode);
+            return Some(*node);
         }
     }
     None
@@ -35,15 +32,14 @@ pub fn owns_small(sectors: &Sectors, number: u32, block: u32) -> bool
     }
 }
 
-/// The first inode that is cached and has this large block.
-pub(crate) fn large_owner(sectors: &Sectors, segments: u32, block: u32) -> Option<u32>
-    requires { segments ≤ SEGMENTS_MAX }
-    ensures { result ≡ covers.large_owner sectors.now.entries segments block }
+/// The first of these nodes whose inode is cached and has this large block.
+pub(crate) fn large_owner_among(sectors: &Sectors, nodes: &[u32], block: u32) -> Option<u32>
+    ensures { result ≡ covers.large_owner_among sectors.now.entries nodes.now block }
 {
-    for inode in 0..SEGMENT_INODES * segments {
-        let owner = owns_large(sectors, inode, block);
+    for node in nodes {
+        let owner = owns_large(sectors, *node, block);
         if owner {
-            return Some(inode);
+            return Some(*node);
         }
     }
     None

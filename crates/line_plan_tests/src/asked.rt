@@ -4,7 +4,7 @@ ghost use Rattle.line_plan.specs.Lines.{TargetFits};
 
 use crate::needed::locks_told;
 use dir_lookup::{Hand, Looked};
-use edit_moves::{Move, Thing, cover_of, moves_of};
+use edit_moves::{Move, Thing, cover_among, moves_of};
 use frang_base::limits::TARGET_BYTES_MAX;
 use frang_base::{Line, NoMemory, Op, Script, Sector, ServerId, What};
 use frang_layout::{Region, region_of};
@@ -14,6 +14,7 @@ use plan_disks::{
     Segments, are_all, bytes_op, held_of, leave_out_but, look_op, names_op, outcome_told,
     put_sectors, sectors_of,
 };
+use plan_locks::nodes_in;
 use plan_steps::Outcome;
 use script_lang::print_script;
 use std::alloc::Global;
@@ -129,7 +130,8 @@ fn end_of(alloc: Global, hand: &Hand, op: &Op) -> Result<String, NoMemory>
 {
     let mut looked = Looked::new(alloc);
     let end = plan_line(alloc, hand, BIRTH, WHEN, op, &mut looked)?;
-    end_told(alloc, hand, &end)
+    let sectors = looked.sectors()?;
+    end_told(alloc, hand, &sectors, &end)
 }
 
 fn looks_by(alloc: Global, hand: &Hand, op: &Op) -> Result<String, NoMemory>
@@ -179,10 +181,15 @@ fn add_sector(text: &mut String, sector: Sector) -> Result<(), NoMemory> {
 }
 
 // How a line ends: what is done and what moves by it, or what is missing and its cover, or what has to be cleared and for which operation.
-fn end_told(alloc: Global, hand: &Hand, end: &LineEnd) -> Result<String, NoMemory> {
+fn end_told(
+    alloc: Global,
+    hand: &Hand,
+    looked: &[Sector],
+    end: &LineEnd,
+) -> Result<String, NoMemory> {
     match end {
         LineEnd::Done(outcome) => done_told(alloc, outcome),
-        LineEnd::Need(sector) => need_told(alloc, hand, *sector),
+        LineEnd::Need(sector) => need_told(alloc, hand, looked, *sector),
         LineEnd::Segments => Ok(format!(in alloc; "segments")?),
         LineEnd::Clear { block, over } => {
             let line = line_told(alloc, over)?;
@@ -219,11 +226,17 @@ fn line_told(alloc: Global, op: &Op) -> Result<String, NoMemory> {
     Ok(text)
 }
 
-// A sector that is missing, and the lock that covers it on the disk, which has one segment.
-fn need_told(alloc: Global, hand: &Hand, sector: Sector) -> Result<String, NoMemory> {
+// A sector that is missing, and the lock that covers it on the disk, which has one segment, by the inodes at which the line looked.
+fn need_told(
+    alloc: Global,
+    hand: &Hand,
+    looked: &[Sector],
+    sector: Sector,
+) -> Result<String, NoMemory> {
     let mut text = String::new(alloc);
     write!(text, "needs {}", sector.0)?;
-    if let Some(lock) = cover_of(hand, 1, sector) {
+    let nodes = nodes_in(alloc, 1, looked)?;
+    if let Some(lock) = cover_among(hand, 1, &nodes, sector) {
         write!(text, " under {lock:?}")?;
     }
     Ok(text)
