@@ -1,0 +1,4 @@
+pub mod Maps
+pub mod UnreadSlots
+pub mod SameReading
+mod EndRead
