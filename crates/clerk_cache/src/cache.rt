@@ -173,7 +173,8 @@ impl Cache {
 
     /// The lock that covers a sector. `None` exactly where the sector isn't cached.
     pub fn cover(&self, sector: Sector) -> Option<LockId>
-        ensures { result ≡ cover_at self.now.entries sector.0 }
+        ensures cover { result ≡ cover_at self.now.entries sector.0 }
+        ensures ordered { Ascend self.now.entries }
     {
         match self.states.get(sector) {
             Some(state) => Some(state.cover),

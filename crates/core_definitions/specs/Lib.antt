@@ -1,6 +1,5 @@
 pub mod Settings
 pub mod Rings
-pub mod Caches
 pub mod Logs
 pub mod Plans
 pub mod Lines

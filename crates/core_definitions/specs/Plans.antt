@@ -30,7 +30,7 @@ use Rattle.disk_definitions.specs.Moves.{moved_by}
 use Rattle.disk_definitions.specs.Numbered.{moves_of}
 use Rattle.disk_definitions.specs.Lines.{plan_of_line, resolved}
 use Rattle.cache_definitions.specs.Caches.{Cache}
-use Rattle.core_definitions.specs.Caches.{usable}
+use Rattle.set_definitions.specs.Usable.{usable}
 use Rattle.set_definitions.specs.Sets.{LockSet, has_lock, segments_in}
 use Rattle.core_definitions.specs.Settings.{Setting}
 

@@ -17,7 +17,7 @@ use Rattle.tree_definitions.specs.Apply.{is_path_op}
 use Rattle.core_definitions.specs.Settings.{Setting}
 use Rattle.set_definitions.specs.Sets.{LockSet, has_lock, next_segment, segments_in, to_ask}
 use Rattle.cache_definitions.specs.Caches.{Cache, CachedSector, cleaned, without_dirt}
-use Rattle.core_definitions.specs.Caches.{usable}
+use Rattle.set_definitions.specs.Usable.{usable}
 use Rattle.core_definitions.specs.Plans.{sight_over}
 use Rattle.core_definitions.specs.Lines.{Stage, Under, bitmap_sector, missing_bitmaps, operation_of, stage_asked, stage_held, stage_in_sight}
 use Rattle.core_definitions.specs.Flights.{Flight, InPlace, OfLog, OfRecovery, Purpose}

@@ -1,4 +1,4 @@
-//! Tests of what the servers keep in memory: sectors with versions, the cache, the order of writes, locks, leases and writes in flight. It holds
+//! Tests of what the servers keep in memory: sectors with versions, the cache, what of it a line may use, the order of writes, locks, leases and writes in flight. It holds
 //! nothing else, so that no crate with proofs is proved once more for its tests.
 #![tactic(auto)]
 
@@ -14,5 +14,7 @@ mod leases;
 mod locks;
 #[cfg(test)]
 mod many_sectors;
+#[cfg(test)]
+mod usable;
 #[cfg(test)]
 mod versions;
