@@ -1,0 +1,6 @@
+pub mod Turns
+mod Phases
+mod Staling
+mod LogHolds
+mod Taking
+mod Soling

@@ -1,0 +1,3 @@
+pub mod Stamps
+pub mod Holds
+pub mod LockSets

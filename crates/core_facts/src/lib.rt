@@ -1,0 +1,16 @@
+//! What holds over every run of the core by itself, for whoever ties a moment of a run to a world of sectors. Each law is the contract of a public function with an empty body:
+//!
+//! - **Stamps**: the writes in flight, and the leases under which they were issued.
+//! - **Holds**: who has taken whose log.
+//! - **Lock sets**: the sets of lines under way.
+//!
+//! They stand on the definitions of the core and on its laws, and go by what each step makes of the clock, the servers, the locks, the writes in flight and the disk.
+#![tactic(auto)]
+
+mod holds;
+mod lock_sets;
+mod stamps;
+
+pub use holds::who_holds_a_log_recovers_it;
+pub use lock_sets::segments_are_needed_sole;
+pub use stamps::stale_writes_are_late;
