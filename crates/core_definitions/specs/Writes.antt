@@ -1,13 +1,12 @@
 -- The writes that a server or the host wants: of its log, in place, and of its recovery.
 use Rattle.std.specs.Prelude.{ℕ, ◌==◌, Bool, true, false, not, ◌&&◌, ◌||◌, if◌then◌else◌, nat_le, Option, Some, None, is_some, List, [], ◌∷◌, ◌++◌, map, fold}
-use Rattle.std.specs.List.{filter_map, list_any}
+use Rattle.std.specs.List.{filter_map}
 use Rattle.std.specs.Option.{option_map}
 use Rattle.frang_base.specs.Functions.{member}
 use Rattle.frang_base.specs.declared.lock.LockId.{LockId}
-use Rattle.frang_base.specs.declared.lock.Mode.TheVariants.{Shared, Sole}
 use Rattle.tree_definitions.specs.Touched.{is_sync, is_unmount}
-use Rattle.lock_definitions.specs.Locks.{Locks, claims_of, held}
-use Rattle.lock_definitions.specs.Calls.{asked_for, serves}
+use Rattle.lock_definitions.specs.Locks.{Locks}
+use Rattle.lock_definitions.specs.Holders.{has_pressed, is_pressed}
 use Rattle.ring_definitions.specs.Rings.{Ring, last, sent}
 use Rattle.sector_bytes.specs.Blocks.{Block}
 use Rattle.sector_bytes.specs.SectorMaps.{with_value}
@@ -38,13 +37,6 @@ Writes = List (ℕ × Write)
 abbrev pub lacks_room : LogRules → Ring → Option Stage → Bool
 lacks_room logs ring (Some (Finishing outcome)) = not (has_room logs ring outcome.redo)
 lacks_room logs ring _ = false
-
--- the lock is held sole, and asked
-abbrev pub is_pressed : Locks → ℕ → LockId → Bool
-is_pressed locks number lock = serves (held locks number lock) Sole && is_some (asked_for locks number lock)
-
-abbrev pub has_pressed : Locks → ℕ → Bool
-has_pressed locks number = list_any (λ claim. is_pressed locks number claim.0) (claims_of locks number)
 
 -- a dirty sector is wanted where it stays wanted; its zeros are pending; an unmount is under way; a sync is, and it is one of file bytes; its lock is held sole and asked; or the
 -- ring has no room and its oldest records name the sector

@@ -1,4 +1,5 @@
 pub mod Calls
+pub mod Holders
 pub mod Lease
 pub mod Locks
 pub mod Order

@@ -3,6 +3,7 @@ pub mod Claiming
 pub mod InPlace
 pub mod Keeping
 pub mod Lists
+pub mod Looking
 pub mod Retained
 pub mod Viewing
 pub mod Walking

@@ -19,12 +19,13 @@ use Rattle.lock_definitions.specs.declared.claim.LogHold.{LogHold}
 use Rattle.lock_definitions.specs.Order.{lock_cmp, is_lock}
 use Rattle.lock_definitions.specs.Locks.{Claims, Locks, no_claim, is_no_claim, claim_in, with_claim, claims_of, claim_of, held, is_wished_in, no_clerks, no_logs, no_locks}
 use Rattle.lock_definitions.specs.Calls.{clashes, holders, changed, asked_of, is_wished_by_other, asked_for, revokes, want_answer, hold_not_by, cleared}
+use Rattle.lock_definitions.specs.Holders.{is_unheld}
 use Rattle.lock_definitions.proofs.ClaimLists.{nothing_claimed}
 use Rattle.lock_definitions.proofs.LockOrder.{lock_total, is_lock_equiv}
 use Rattle.lock_definitions.specs.declared.claim.Wanted.{Wanted}
 use Rattle.lock_definitions.specs.declared.claim.Wanted.TheVariants.{Granted, Wait}
 use Rattle.lock_definitions.proofs.Answers.{granted_without_bits, waits_with_bits}
-use Rattle.lock_table.specs.Asked.{Claimed, Asked, servers, claim_by, is_unclaimed, unclaimed, holders_beside, is_wished_beside, asked_by, with_made}
+use Rattle.lock_table.specs.Asked.{Claimed, Asked, servers, claim_by, is_unclaimed, unclaimed, is_held_by_none, holders_beside, is_wished_beside, asked_by, with_made}
 use Rattle.lock_table.specs.Kept.{Entries, chosen, claimed_at, some_claim, claimed_by, clerks_of, asked_lists, is_needed, is_reserved, placed, replaced, freed, unreserved, ended, ended_all}
 use Rattle.lock_table.specs.Table.{locks_of}
 use Rattle.lock_table.proofs.Chosen.{chosen-alike, rechosen, all_found, same_made, sorted-chosen, chosen-none}
@@ -103,6 +104,9 @@ module _ (entries : Entries) (sorted : IsStrictlySortedBy lock_cmp (keys_of entr
 
   pub holders_are : (server : ℕ) (lock : LockId) (mode : Mode) → holders_beside server mode (claimed_at entries lock) ≡ holders (locks_of entries logs) server lock mode
   holders_are server lock mode = server_bits-same _ _ (λ other below. ap (λ claim. not (other == server) && clashes mode claim.held) (sym (claim_of_is other below lock)))
+
+  pub unheld_is : (lock : LockId) → is_held_by_none (claimed_at entries lock) ≡ is_unheld (locks_of entries logs) lock
+  unheld_is lock = ap not (any_server-same _ _ (λ server below. ap (λ claim. is_some claim.held) (sym (claim_of_is server below lock))))
 
   wished_are : (server : ℕ) (lock : LockId) (mode : Mode) → is_wished_by_other (locks_of entries logs) server lock mode ≡ is_wished_beside server mode (claimed_at entries lock)
   wished_are server lock mode = any_server-same _ _ (λ other below. ap (λ claim. not (other == server) && is_wished_in claim mode) (claim_of_is other below lock))

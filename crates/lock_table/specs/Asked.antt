@@ -1,5 +1,5 @@
 -- What the servers are asked for, beside the claims on each lock.
-use Rattle.std.specs.Prelude.{ℕ, ◌==◌, Bool, not, ◌&&◌, Option, Some, None, List, [], map, replicate, slice_index_or}
+use Rattle.std.specs.Prelude.{ℕ, ◌==◌, Bool, not, ◌&&◌, Option, Some, None, is_some, List, [], map, replicate, slice_index_or}
 use Rattle.std.specs.List.{list_all, range_with_len}
 use Rattle.std.specs.Map.{remove_entry}
 use Rattle.std.specs.BTreeMap.{insert_entry}
@@ -41,6 +41,10 @@ is_unclaimed claims = list_all is_no_claim claims
 -- sixteen servers without claims
 unfoldable pub unclaimed : Claimed
 unclaimed = replicate SERVERS no_claim
+
+-- no server holds the lock
+abbrev pub is_held_by_none : Claimed → Bool
+is_held_by_none claims = not (any_server (λ server. is_some (claim_by server claims).held))
 
 -- a bit for each other server that holds the lock in a mode that conflicts
 abbrev pub holders_beside : ℕ → Mode → Claimed → ℕ

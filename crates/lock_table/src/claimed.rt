@@ -1,7 +1,7 @@
 // What all servers have and wish of one lock.
 ghost use Rattle.std.specs.Prelude.{◌≡◌, ◌<◌, ◌≤◌, length, slice_set};
 ghost use Rattle.lock_definitions.specs.Locks.{no_claim, is_no_claim};
-ghost use Rattle.lock_table.specs.Asked.{claim_by, is_unclaimed, unclaimed, holders_beside, is_wished_beside, asked_by};
+ghost use Rattle.lock_table.specs.Asked.{claim_by, is_unclaimed, unclaimed, is_held_by_none, holders_beside, is_wished_beside, asked_by};
 
 use crate::modes::{asked_of, clashes, is_wished_in};
 use frang_base::limits::SERVERS;
@@ -106,6 +106,18 @@ impl Claimed {
         ensures { result ≡ is_unclaimed self.now }
     {
         self.claims.iter().all(|claim| is_no_claim(*claim))
+    }
+
+    /// Whether no server holds the lock.
+    #[tactic(auto, unfolding(lock_definitions::specs::Servers::any_server))]
+    pub(crate) fn is_unheld(&self) -> bool
+        ensures { result ≡ is_held_by_none self.now }
+    {
+        let mut held = false;
+        for server in 0..SERVERS as u8 {
+            held |= self.claim(ServerId(server)).held.is_some();
+        }
+        !held
     }
 
     /// A bit for each other server that holds the lock in a mode that conflicts.

@@ -6,7 +6,7 @@ ghost use Rattle.ordered_map.specs.Chunks.{joined};
 ghost use Rattle.std.specs.Map.{lookup, keys_of};
 ghost use Rattle.lock_definitions.specs.Order.{lock_cmp, is_lock};
 ghost use Rattle.lock_definitions.specs.Locks.{no_claim};
-ghost use Rattle.lock_table.specs.Asked.{asked_by, claim_by, holders_beside};
+ghost use Rattle.lock_table.specs.Asked.{asked_by, claim_by, holders_beside, is_held_by_none};
 ghost use Rattle.lock_table.specs.Kept.{asked_lists, claimed_at, HasSpace, KeepsSpace, KeepsSpaceBut, Fits, placed, replaced, is_needed, tidied, freed, ended_all};
 
 use crate::asked::asked_in;
@@ -74,6 +74,16 @@ impl Claims {
         match self.map.get(lock) {
             Some(claimed) => claimed.holders(server, mode),
             None => Claimed::new().holders(server, mode),
+        }
+    }
+
+    /// Whether no server holds a lock.
+    pub(crate) fn is_unheld(&self, lock: LockId) -> bool
+        ensures { result ≡ is_held_by_none (claimed_at self.now.entries lock) }
+    {
+        match self.map.get(lock) {
+            Some(claimed) => claimed.is_unheld(),
+            None => Claimed::new().is_unheld(),
         }
     }
 

@@ -10,6 +10,7 @@ mod claimed;
 mod claims;
 mod lock_map;
 mod logs;
+mod looks;
 mod modes;
 mod table;
 

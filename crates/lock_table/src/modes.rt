@@ -1,7 +1,8 @@
 // How modes stand to each other, and what a grant, a wish and a return make of a claim.
 ghost use Rattle.std.specs.Prelude.{◌≡◌};
 ghost use Rattle.lock_definitions.specs.Locks.{is_wished_in};
-ghost use Rattle.lock_definitions.specs.Calls.{clashes, answered, granted, wishing, given_up, shared, asked_of};
+ghost use Rattle.frang_base.specs.declared.lock.Mode.TheVariants.{Sole};
+ghost use Rattle.lock_definitions.specs.Calls.{serves, clashes, answered, granted, wishing, given_up, shared, asked_of};
 
 use frang_base::Mode;
 use lock_definitions::{AskedFor, Claim, Wanted};
@@ -16,6 +17,13 @@ pub(crate) fn clashes(wanted: Mode, held: Option<Mode>) -> bool
         (Mode::Sole, Some(Mode::Shared)) => true,
         (Mode::Shared, Some(Mode::Shared)) => false,
     }
+}
+
+/// Whether a lock is held sole.
+pub(crate) fn is_sole(held: Option<Mode>) -> bool
+    ensures { result ≡ serves held Sole }
+{
+    matches!(held, Some(Mode::Sole))
 }
 
 /// What the answer to a want makes of the claim: the mode is granted, or the wish is noted.

@@ -5,6 +5,7 @@ ghost use Rattle.std.specs.Option.{option_copied};
 ghost use Rattle.ordered_map.specs.Chunks.{joined};
 ghost use Rattle.lock_definitions.specs.Locks.{no_locks, claim_of, held, is_wished, log_hold, AreLocks};
 ghost use Rattle.lock_definitions.specs.Calls.{want_answer, answered, asked_for, is_free, wanted, released, downgraded, revokes, log_taken_by, log_answer, taken, extended, cleared};
+ghost use Rattle.lock_definitions.specs.Holders.{is_unheld};
 ghost use Rattle.lock_table.specs.Table.{HasRoom, KeepsRoom};
 
 use crate::claims::Claims;
@@ -131,6 +132,13 @@ impl LockTable {
         self.claims.holders(server, lock, mode) == 0
     }
 
+    /// Whether no server holds a lock. It takes time logarithmic in the number of locks, and no memory.
+    pub fn is_unheld(&self, lock: LockId) -> bool
+        ensures { result ≡ is_unheld self.now.locks lock }
+    {
+        self.claims.is_unheld(lock)
+    }
+
     /// What a server, 0 to 15, is asked for of a lock, where a noted wish of another server conflicts with its hold: `Downgrade` exactly
     /// where it holds the lock sole and a shared one is wished. It takes time logarithmic in the number of locks, and no memory.
     pub fn asked_for(&self, server: ServerId, lock: LockId) -> Option<AskedFor>
@@ -183,7 +191,7 @@ impl LockTable {
     }
 
     // The same, as it lies.
-    fn asked(&self, server: ServerId) -> &[Chunk<LockId, AskedFor>]
+    pub(crate) fn asked(&self, server: ServerId) -> &[Chunk<LockId, AskedFor>]
         ensures { joined result.now ≡ revokes self.now.locks server.0 }
     {
         self.claims.asked(server)

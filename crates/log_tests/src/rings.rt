@@ -33,8 +33,14 @@ enum Step {
     // Sectors are issued until none may be.
     IssueAll,
     Acknowledge(u64),
+    // The last numbers issued and given, and whether all are acknowledged.
+    Numbers,
     Oldest,
+    // Whether the oldest records name this sector.
+    IsOldest(u64),
     Reclaim(&'static [(Sector, u64)]),
+    // It says the room that is then there.
+    GiveUp,
 }
 
 impl Run {
@@ -127,6 +133,20 @@ impl Run {
         Ok(format!(in alloc; "{:?}", self.acked(seq))?)
     }
 
+    fn numbers_said(&self, alloc: Global) -> Result<String, NoMemory> {
+        let (sent, last) = (self.ring.sent(), self.ring.last());
+        Ok(format!(in alloc; "{sent}, {last}, {}", self.ring.is_all_reached())?)
+    }
+
+    fn is_oldest_said(&self, alloc: Global, sector: u64) -> Result<String, NoMemory> {
+        Ok(format!(in alloc; "{}", self.ring.is_oldest_named(Sector(sector)))?)
+    }
+
+    fn give_up_said(&mut self, alloc: Global) -> Result<String, NoMemory> {
+        self.ring.give_up();
+        self.room_said(alloc)
+    }
+
     fn oldest_said(&self, alloc: Global) -> Result<String, NoMemory> {
         Ok(format!(in alloc; "{:?}", self.ring.oldest()?)?)
     }
@@ -146,8 +166,11 @@ impl Run {
             Step::Issue => self.issue_said(alloc),
             Step::IssueAll => self.issue_all_said(alloc),
             Step::Acknowledge(seq) => self.acked_said(alloc, seq),
+            Step::Numbers => self.numbers_said(alloc),
             Step::Oldest => self.oldest_said(alloc),
+            Step::IsOldest(sector) => self.is_oldest_said(alloc, sector),
             Step::Reclaim(disk) => self.reclaim_said(alloc, disk),
+            Step::GiveUp => self.give_up_said(alloc),
         }
     }
 }
@@ -339,6 +362,25 @@ static OPEN: [Row; 11] = [
 #[test]
 fn a_reclaim_leaves_the_open_sector(rt: HostRuntime) -> Result<(), Fail> {
     expect(&rt, rt.alloc(), &OPEN)
+}
+
+static NUMBERS: [Row; 11] = [
+    (Step::Append(1, 5, 1, 1), "Ok(256)"),
+    (Step::Numbers, "255, 256, false"),
+    (Step::Issue, "256: from 0, 58 bytes"),
+    (Step::Numbers, "256, 256, false"),
+    (Step::Acknowledge(256), "Some(256)"),
+    (Step::Numbers, "256, 256, true"),
+    (Step::IsOldest(6), "true"),
+    (Step::IsOldest(7), "false"),
+    (Step::GiveUp, "(1, 192)"),
+    (Step::IsOldest(6), "false"),
+    (Step::Oldest, "[]"),
+];
+
+#[test]
+fn a_ring_tells_its_numbers_and_gives_up_unasked(rt: HostRuntime) -> Result<(), Fail> {
+    expect(&rt, rt.alloc(), &NUMBERS)
 }
 
 // each frame fills its sector

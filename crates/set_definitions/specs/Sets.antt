@@ -1,8 +1,7 @@
 -- The set of a line over paths: the locks that it needs, as far as they are found, and which of them its server holds.
 use Rattle.std.specs.Prelude.{ℕ, Bool, not, Option, Some, None, is_some, List, [], ◌∷◌, find, fold, filter}
-use Rattle.std.specs.List.{filter_map, slice_get, take_while}
+use Rattle.std.specs.List.{filter_map, take_while}
 use Rattle.std.specs.Map.{keys_of, lookup}
-use Rattle.std.specs.Option.{option_or}
 use Rattle.std.specs.BTreeMap.{insert_entry}
 use Rattle.frang_base.specs.declared.limits.TheConstants.{ROOT_INODE}
 use Rattle.frang_base.specs.declared.lock.LockId.{LockId}
@@ -13,7 +12,7 @@ use Rattle.tree_definitions.specs.Numbers.{below}
 use Rattle.lock_definitions.specs.Order.{lock_cmp, is_lock}
 use Rattle.lock_definitions.specs.Locks.{Locks, held}
 use Rattle.lock_definitions.specs.Calls.{serves}
-use Rattle.lock_definitions.specs.Servers.{any_server}
+use Rattle.lock_definitions.specs.Holders.{next_among}
 use Rattle.disk_definitions.specs.Plans.{Lock}
 
 -- locks with the modes in which they are needed, ascending, each once
@@ -76,15 +75,6 @@ segments_in set = filter_map segment_of (keys_of set)
 abbrev pub segments_outside : ℕ → LockSet → List ℕ
 segments_outside segments set = filter (λ segment. not (has_lock set (Segment segment))) (below segments)
 
--- no server holds the lock
-abbrev pub is_unheld : Locks → LockId → Bool
-is_unheld locks lock = not (any_server (λ server. is_some (held locks server lock)))
-
 -- of these the least that this server holds sole, else the least that no server holds, else the least
-abbrev pub next_of : Locks → ℕ → List ℕ → Option ℕ
-next_of locks server segments =
-    option_or (find (λ segment. is_served locks server (Segment segment, Sole)) segments)
-    (option_or (find (λ segment. is_unheld locks (Segment segment)) segments) (slice_get segments 0))
-
 abbrev pub next_segment : ℕ → Locks → ℕ → LockSet → Option ℕ
-next_segment segments locks server set = next_of locks server (segments_outside segments set)
+next_segment segments locks server set = next_among locks server (segments_outside segments set)

@@ -19,6 +19,12 @@ enum Step {
     Revokes(&'static [(LockId, AskedFor)]),
     AskedFor(Option<AskedFor>),
     AskedAt(usize, Option<(LockId, AskedFor)>),
+    IsUnheld(bool),
+    HasPressed(bool),
+    // A segment is wanted sole, and so granted.
+    TakeSegment(u32),
+    // Of the first three segments, but for these.
+    NextSegment(&'static [(LockId, Mode)], Option<u32>),
     Downgrade,
     Release,
     // The log of this server is taken at a tick, until another.
@@ -46,6 +52,13 @@ fn wants(
         return Ok(false);
     }
     Ok(table.want(server, NODE, mode)? == answer)
+}
+
+fn takes(table: &mut LockTable, server: ServerId, lock: LockId) -> Result<bool, NoMemory> {
+    if server.0 >= 16 {
+        return Ok(false);
+    }
+    Ok(table.want(server, lock, Mode::Sole)? == Wanted::Granted)
 }
 
 fn is_asked(
@@ -104,6 +117,10 @@ fn is_answered(table: &mut LockTable, server: ServerId, step: Step) -> Result<bo
         Step::Revokes(asked) => is_asked(table, server, asked)?,
         Step::AskedFor(asked) => asked_for(table, server) == asked,
         Step::AskedAt(place, asked) => table.asked_at(server, place) == asked,
+        Step::IsUnheld(unheld) => table.is_unheld(NODE) == unheld,
+        Step::HasPressed(pressed) => table.has_pressed(server) == pressed,
+        Step::TakeSegment(segment) => takes(table, server, LockId::Segment(segment))?,
+        Step::NextSegment(set, next) => table.next_segment(server, 3, set) == next,
         Step::Downgrade => downgrade(table, server),
         Step::Release => release(table, server),
         Step::TakeLog(dead, now, expiry, answer) => {
@@ -144,14 +161,19 @@ const FIRST: ServerId = ServerId(0);
 
 const SECOND: ServerId = ServerId(1);
 
-static SHARED: [(ServerId, Step); 21] = [
+static SHARED: [(ServerId, Step); 27] = [
+    (FIRST, Step::IsUnheld(true)),
     (FIRST, Step::Reserve),
     (FIRST, Step::Want(Mode::Sole, Wanted::Granted)),
+    (FIRST, Step::IsUnheld(false)),
+    (FIRST, Step::HasPressed(false)),
     (
         SECOND,
         Step::Want(Mode::Shared, Wanted::Wait { holders: 1 }),
     ),
     (FIRST, Step::Revokes(&[(NODE, AskedFor::Downgrade)])),
+    (FIRST, Step::HasPressed(true)),
+    (SECOND, Step::HasPressed(false)),
     (FIRST, Step::AskedFor(Some(AskedFor::Downgrade))),
     (FIRST, Step::AskedAt(0, Some((NODE, AskedFor::Downgrade)))),
     (FIRST, Step::AskedAt(1, None)),
@@ -164,6 +186,8 @@ static SHARED: [(ServerId, Step); 21] = [
     (FIRST, Step::Revokes(&[])),
     (SECOND, Step::Want(Mode::Sole, Wanted::Wait { holders: 1 })),
     (FIRST, Step::Revokes(&[(NODE, AskedFor::Release)])),
+    // it is asked, and held shared
+    (FIRST, Step::HasPressed(false)),
     (FIRST, Step::Held(Some(Mode::Shared))),
     (FIRST, Step::Release),
     (SECOND, Step::Want(Mode::Sole, Wanted::Granted)),
@@ -174,6 +198,47 @@ static SHARED: [(ServerId, Step); 21] = [
 #[test]
 fn a_downgrade_lets_a_shared_wish_in(rt: HostRuntime) -> Result<(), Fail> {
     expect(&rt, rt.alloc(), &SHARED)
+}
+
+static SEGMENTS: [(ServerId, Step); 8] = [
+    (FIRST, Step::NextSegment(&[], Some(0))),
+    (SECOND, Step::TakeSegment(0)),
+    // the least that nobody holds, and then the least that it holds itself
+    (FIRST, Step::NextSegment(&[], Some(1))),
+    (FIRST, Step::TakeSegment(2)),
+    (FIRST, Step::NextSegment(&[], Some(2))),
+    (
+        FIRST,
+        Step::NextSegment(&[(LockId::Segment(2), Mode::Sole)], Some(1)),
+    ),
+    // all others are held by others
+    (
+        FIRST,
+        Step::NextSegment(
+            &[
+                (NODE, Mode::Shared),
+                (LockId::Segment(1), Mode::Sole),
+                (LockId::Segment(2), Mode::Sole),
+            ],
+            Some(0),
+        ),
+    ),
+    (
+        FIRST,
+        Step::NextSegment(
+            &[
+                (LockId::Segment(0), Mode::Sole),
+                (LockId::Segment(1), Mode::Sole),
+                (LockId::Segment(2), Mode::Sole),
+            ],
+            None,
+        ),
+    ),
+];
+
+#[test]
+fn a_line_takes_its_next_segment(rt: HostRuntime) -> Result<(), Fail> {
+    expect(&rt, rt.alloc(), &SEGMENTS)
 }
 
 const DEAD: ServerId = ServerId(3);

@@ -1,1 +1,2 @@
+pub mod NamedSectors
 pub mod WaitingSectors

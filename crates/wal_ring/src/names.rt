@@ -1,6 +1,6 @@
 // What the records of a ring name.
-ghost use Rattle.std.specs.Prelude.{◌≡◌, ◌+◌, ◌≤◌, [], ◌++◌, nat_le, length, not, fold, map, find, vec_len, vec_capacity, IfOk, OnOk};
-ghost use Rattle.std.specs.List.{filter};
+ghost use Rattle.std.specs.Prelude.{◌≡◌, ◌==◌, ◌+◌, ◌≤◌, [], ◌++◌, nat_le, length, not, fold, map, find, vec_len, vec_capacity, IfOk, OnOk};
+ghost use Rattle.std.specs.List.{filter, list_any};
 ghost use Rattle.std.specs.Option.{option_map};
 ghost use Rattle.ring_definitions.specs.Rings as rings;
 ghost use Rattle.ring_definitions.specs.Rings.{names_of, with_named};
@@ -55,6 +55,16 @@ pub(crate) fn unwritten(end: u64, named: &[Named], disk: &[(Sector, u64)]) -> Op
         .filter(|x| begins_up_to(end, x))
         .find(|x| !is_known(disk, x))?;
     Some(Unwritten { sector: x.sector })
+}
+
+/// Whether the records that begin up to this number name a sector.
+pub(crate) fn is_named(end: u64, named: &[Named], sector: Sector) -> bool
+    ensures { result ≡ list_any (λ x. x.sector.0 == sector.0) (filter (λ x. nat_le x.first end) named.now) }
+{
+    named
+        .iter()
+        .filter(|x| begins_up_to(end, x))
+        .any(|x| x.sector.0 == sector.0)
 }
 
 /// Takes out what the records name that begin up to this number.

@@ -1,13 +1,14 @@
 // The ring.
-ghost use Rattle.std.specs.Prelude.{◌≡◌, ◌+◌, ◌-◌, ◌<◌, ◌≤◌, ◌^◌, map, Ok, IfOk, IsOk, OnOk, IsSomeAnd, IsTrue};
+ghost use Rattle.std.specs.Prelude.{◌≡◌, ℕ, Bool, ◌==◌, ◌+◌, ◌-◌, ◌<◌, ◌≤◌, ◌^◌, map, Ok, IfOk, IsOk, OnOk, IsSomeAnd, IsTrue};
+ghost use Rattle.std.specs.List.{list_all, list_any};
 ghost use Rattle.std.specs.VecDeque.{deque_len, deque_capacity};
 ghost use Rattle.frang_base.specs.declared.limits.TheConstants.{LOG_NUMBERS_END, LOG_SECTORS};
 ghost use Rattle.ring_definitions.specs.Rings as rings;
-ghost use Rattle.ring_definitions.specs.Rings.{is_record, append_answer, ring_at, appended, passed, oldest_versions};
+ghost use Rattle.ring_definitions.specs.Rings.{is_record, append_answer, ring_at, appended, passed, oldest_versions, reclaimed};
 ghost use Rattle.wal_ring.specs.SpaciousRings.{HasRoom, KeepsRoom, KeepsRoomBut};
 ghost use Rattle.wal_ring.specs.Outcomes.{AppendOutcome, ReserveOutcome, ReclaimOutcome};
 
-use crate::names::{drop_up_to, listed, put_names, unwritten, versions_up_to};
+use crate::names::{drop_up_to, is_named, listed, put_names, unwritten, versions_up_to};
 use crate::packing::{frame_length, open_room, put_frame};
 use frang_base::limits::{
     LOG_BODY_BYTES, LOG_IN_FLIGHT_MAX, LOG_QUARTER, LOG_WINDOW, SECTOR_BYTES,
@@ -105,15 +106,15 @@ impl Ring {
         self.last()
     }
 
-    // The last number issued.
-    fn sent(&self) -> u64
+    /// The last number issued.
+    pub fn sent(&self) -> u64
         ensures { result ≡ rings.sent self.now.ring }
     {
         self.reached + self.above.len() as u64
     }
 
-    // The last number given.
-    fn last(&self) -> u64
+    /// The last number given: that of the sector with the last byte of the last record.
+    pub fn last(&self) -> u64
         ensures number { result ≡ rings.last self.now.ring }
         ensures first { LOG_SECTORS - 1 ≤ result }
     {
@@ -252,10 +253,25 @@ impl Ring {
         self.reached
     }
 
+    /// Whether every number that was given is acknowledged.
+    pub fn is_all_reached(&self) -> bool
+        ensures { result ≡ (self.now.ring.reached == rings.last self.now.ring) }
+    {
+        self.reached == self.last()
+    }
+
+    /// Whether the oldest records name a sector. It takes no memory, and time in the number of the names of the ring.
+    pub fn is_oldest_named(&self, sector: Sector) -> bool
+        ensures { result ≡ list_any (λ x. x.sector.0 == sector.0) (rings.oldest self.now.ring) }
+    {
+        is_named(self.oldest_end(), &self.named, sector)
+    }
+
     /// The sectors named in the oldest records, those that begin in the oldest 64 numbers, issued or not: ascending, each with its greatest version there.
-    /// `reclaim` gives up those of them that begin in an issued number.
+    /// `reclaim` gives up those of them that begin in an issued number. What holds of each sector listed holds of each that is named there.
     pub fn oldest(&self) -> Result<Vec<(Sector, u64)>, NoMemory>
-        ensures { IfOk result (λ list. map (λ entry. (entry.0.0, entry.1)) list.items ≡ oldest_versions self.now.ring) }
+        ensures versions { IfOk result (λ list. map (λ entry. (entry.0.0, entry.1)) list.items ≡ oldest_versions self.now.ring) }
+        ensures named { IfOk result (λ list. (test : ℕ → Bool) → list_all (λ entry. test entry.0.0) list.items ≡ list_all (λ x. test x.sector.0) (rings.oldest self.now.ring)) }
     {
         let versions = versions_up_to(self.alloc, self.oldest_end(), &self.named)?;
         listed(self.alloc, &versions)
@@ -268,13 +284,22 @@ impl Ring {
         ensures outcome { ReclaimOutcome disk.now self.old.ring self.new.ring result }
         ensures room { KeepsRoom self.old self.new }
     {
-        let end = self.reclaim_end();
-        if let Some(fault) = unwritten(end, &self.named, disk) {
+        if let Some(fault) = unwritten(self.reclaim_end(), &self.named, disk) {
             return Err(fault);
         }
+        self.give_up();
+        Ok(())
+    }
+
+    /// Gives up the reclaimable records, as `reclaim` does, and asks nothing: the caller has seen before that what they name stands on the disk. It takes no
+    /// memory.
+    pub fn give_up(&mut self)
+        ensures ring { self.new.ring ≡ reclaimed self.old.ring }
+        ensures room { KeepsRoom self.old self.new }
+    {
+        let end = self.reclaim_end();
         self.given_up = end;
         drop_up_to(end, &mut self.named);
-        Ok(())
     }
 }
 
