@@ -5,6 +5,7 @@ use Rattle.std.specs.List.{AllByRecursion}
 use Rattle.std.specs.Map.{keys_of}
 use Rattle.std.specs.BTreeMap.{is_at}
 use Rattle.std.specs.Ordering.{nat_cmp}
+use Rattle.frang_base.specs.Functions.{member}
 use Rattle.frang_base.proofs.Tests.{is_some-option_map, or_second_alone}
 use Rattle.sector_bytes.specs.SectorMaps.{value_at, without}
 use Rattle.sector_bytes.proofs.MapLaws.{found}
@@ -36,6 +37,15 @@ staying_is_dirty state stays = go (is_some state.dirt) stays
     go : (b : Bool) → b && state.stays ≡ true → b ≡ true
     go true e = refl
     go false e = cc e
+
+-- who stays wanted is dirty
+pub who_stays_is_dirty : (blocks : Blocks) (states : States) (sector : ℕ) → AreKept blocks states → member sector (flagged is_state_staying states) ≡ true → is_dirty_at (joined blocks states) sector ≡ true
+who_stays_is_dirty blocks states sector kept is =
+    sym (dirty-joined blocks states sector kept) ∙ go (value_at states sector) (sym (member_flagged is_state_staying sector states (states_ascend kept)) ∙ is)
+  where
+    go : (o : Option SectorState) → unwrap_or (option_map is_state_staying o) false ≡ true → unwrap_or (option_map is_state_dirty o) false ≡ true
+    go (Some state) e = staying_is_dirty state e
+    go None e = e
 
 -- ---- what a forgotten sector leaves
 

@@ -1,5 +1,5 @@
 // The cached sectors.
-ghost use Rattle.std.specs.Prelude.{◌≡◌, ◌+◌, ◌<◌, ◌≤◌, ◌++◌, [], None, not, if◌then◌else◌, is_some, true, false, IsOk, IsSome, IfOk, OnErr, OnOk};
+ghost use Rattle.std.specs.Prelude.{◌≡◌, ℕ, ◌+◌, ◌<◌, ◌≤◌, ◌++◌, [], None, not, if◌then◌else◌, is_some, true, false, IsOk, IsSome, IfOk, OnErr, OnOk};
 ghost use Rattle.std.specs.List.Sorted.{IsStrictlySortedBy};
 ghost use Rattle.std.specs.Option.{option_and_then, option_copied, option_map};
 ghost use Rattle.std.specs.Ordering.{nat_cmp, on};
@@ -445,6 +445,8 @@ impl Cache {
     pub fn want_all(&mut self)
         ensures entries { self.new.entries ≡ self.old.entries }
         ensures staying { self.new.staying ≡ dirty_sectors self.old.entries }
+        ensures joined { (s : ℕ) → member s self.old.staying ≡ true → is_dirty_at self.old.entries s ≡ true }
+        ensures ordered { Ascend self.old.entries }
         ensures flying { self.new.flying ≡ self.old.flying }
         ensures spare { self.new.spare ≡ self.old.spare }
     {

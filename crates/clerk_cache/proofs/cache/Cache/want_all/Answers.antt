@@ -1,7 +1,11 @@
--- The flags alone are others.
-use Rattle.std.proofs.Common.{sym, ap, ◌∙◌, subst, arith}
-use Rattle.cache_definitions.specs.Caches.{dirty_sectors}
+-- The flags alone are others, and who stayed wanted is dirty.
+use Rattle.std.proofs.Common.{◌≡◌, true, sym, ap, ◌∙◌, subst, arith}
+use Rattle.frang_base.specs.Functions.{member}
+use Rattle.sector_bytes.specs.SectorMaps.{Ascend}
+use Rattle.cache_definitions.specs.Caches.{dirty_sectors, is_dirty_at}
 use Rattle.clerk_cache.specs.Kept.{AreAlike, flagged, is_state_flying, is_state_staying, joined}
+use Rattle.clerk_cache.proofs.Joining.{ascend_joined}
+use Rattle.clerk_cache.proofs.Staying.{who_stays_is_dirty}
 use Rattle.clerk_cache.proofs.WantedAll.{alike-all, flying-all, joined-all, staying-all}
 use Rattle.clerk_cache.proofs.cache.Cache.want_all.Goals as goal
 
@@ -24,3 +28,11 @@ returns-clause-flying c = ap (flagged is_state_flying) c.want_all.ensures.entrie
 
 pub returns-clause-spare : goal.returns-clause-spare
 returns-clause-spare c = omega (arith, c.want_all.ensures.spare, ap (λ cache. cache.spare) c.self.view_is)
+
+pub returns-clause-joined : goal.returns-clause-joined
+returns-clause-joined c = λ s stays.
+    subst (λ cache. is_dirty_at cache.entries s ≡ true) c.self.view_is
+    (who_stays_is_dirty c.self.inside.sectors.entries c.self.inside.states.entries s c.self.invariant (ap (λ cache. member s cache.staying) c.self.view_is ∙ stays))
+
+pub returns-clause-ordered : goal.returns-clause-ordered
+returns-clause-ordered c = subst (λ cache. Ascend cache.entries) c.self.view_is (ascend_joined c.self.inside.sectors.entries c.self.inside.states.entries c.self.invariant)
