@@ -1,4 +1,5 @@
 pub mod Changing
+pub mod Counting
 pub mod InFlight
 pub mod Indexing
 pub mod Losing

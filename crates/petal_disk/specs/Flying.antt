@@ -101,14 +101,9 @@ is_under lock (OfLog number) = false
 is_under lock (InPlace cover) = is_lock lock cover
 is_under lock OfRecovery = false
 
--- the write is of the server's present mount, and where a lock is told, in place under it
-abbrev pub is_of : ℕ → Option LockId → Flying → Bool
-is_of server None flying = is_of_mount server flying
-is_of server (Some lock) flying = is_of_mount server flying && is_under lock flying.purpose
-
--- such a write is in flight
-abbrev pub has_of : ℕ → Option LockId → InFlight → Bool
-has_of server lock flights = list_any (λ one. is_of server lock one.1) flights
+-- the write is of the server's present mount, and in place under this lock
+abbrev pub is_of : ℕ → LockId → Flying → Bool
+is_of server lock flying = is_of_mount server flying && is_under lock flying.purpose
 
 -- a write of the server's present mount is in flight
 abbrev pub has_flights : InFlight → ℕ → Bool
@@ -116,4 +111,4 @@ has_flights flights server = list_any (λ one. is_of_mount server one.1) flights
 
 -- one in place of its present mount under this lock is in flight
 abbrev pub has_flights_under : InFlight → ℕ → LockId → Bool
-has_flights_under flights server lock = list_any (λ one. is_of_mount server one.1 && is_under lock one.1.purpose) flights
+has_flights_under flights server lock = list_any (λ one. is_of server lock one.1) flights

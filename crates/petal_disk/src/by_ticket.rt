@@ -7,7 +7,7 @@ ghost use Rattle.std.specs.Box.{box_value};
 ghost use Rattle.ordered_map.specs.Chunks.{joined};
 ghost use Rattle.petal_disk.specs.Keeping.{opened};
 ghost use Rattle.petal_disk.specs.Flights.{write_at, without};
-ghost use Rattle.petal_disk.specs.Flying.{changed_at, changed_place, covered, has_of, left, left_behind, put_of, puts};
+ghost use Rattle.petal_disk.specs.Flying.{changed_at, changed_place, covered, has_flights_under, left, left_behind, put_of, puts};
 
 use crate::flying::{Cover, Leave, is_of};
 use crate::{Flying, Purpose, Ticket};
@@ -66,9 +66,9 @@ fn overwrite(kept: &mut Box<Flying>, flying: Flying)
     **kept = flying;
 }
 
-// Whether a piece has a write of this server's present mount, and where a lock is told, in place under it.
-fn has_piece(piece: &[(Ticket, Box<Flying>)], server: ServerId, lock: Option<LockId>) -> bool
-    ensures { result ≡ has_of server.0 lock (opened piece.now box_value) }
+// Whether a piece has a write of this server's present mount in place under a lock.
+fn has_piece(piece: &[(Ticket, Box<Flying>)], server: ServerId, lock: LockId) -> bool
+    ensures { result ≡ has_flights_under (opened piece.now box_value) server.0 lock }
 {
     for (_, kept) in piece {
         if is_of(&**kept, server, lock) {
@@ -79,12 +79,8 @@ fn has_piece(piece: &[(Ticket, Box<Flying>)], server: ServerId, lock: Option<Loc
 }
 
 // The same of pieces that follow one another.
-fn have_pieces(
-    pieces: &[Chunk<Ticket, Box<Flying>>],
-    server: ServerId,
-    lock: Option<LockId>,
-) -> bool
-    ensures { result ≡ has_of server.0 lock (opened (joined pieces.now) box_value) }
+fn have_pieces(pieces: &[Chunk<Ticket, Box<Flying>>], server: ServerId, lock: LockId) -> bool
+    ensures { result ≡ has_flights_under (opened (joined pieces.now) box_value) server.0 lock }
 {
     for piece in pieces {
         if has_piece(piece.entries(), server, lock) {
@@ -111,6 +107,7 @@ impl WritesByTicket {
     pub(crate) fn count(&self) -> usize
         ensures writes { result ≡ length self.now.writes }
         ensures flying { result ≡ length self.now.flying }
+        ensures most { self.now.spare + length self.now.flying ≤ usize.MAX }
         ensures puts { self.now.writes ≡ puts self.now.flying }
     {
         self.writes.count()
@@ -226,9 +223,9 @@ impl WritesByTicket {
         }
     }
 
-    /// Whether a write of this server's present mount is there, and where a lock is told, in place under it.
-    pub(crate) fn has_of(&self, server: ServerId, lock: Option<LockId>) -> bool
-        ensures { result ≡ has_of server.0 lock self.now.flying }
+    /// Whether a write of this server's present mount is there in place under a lock.
+    pub(crate) fn has_under(&self, server: ServerId, lock: LockId) -> bool
+        ensures { result ≡ has_flights_under self.now.flying server.0 lock }
     {
         have_pieces(self.writes.chunks(), server, lock)
     }

@@ -10,6 +10,7 @@ ghost use Rattle.petal_disk.specs.Flying.{flying_of, has_flights, has_flights_un
 ghost use Rattle.petal_disk.specs.Arriving.{IssueOutcome, ArriveOutcome, arriving, left_by};
 
 use crate::by_ticket::WritesByTicket;
+use crate::counts::Counts;
 use crate::{Arrived, Flying, IssueFault, Purpose, Ticket};
 use frang_base::{LockId, NoMemory, Sector, ServerId};
 use frang_outside::{Outside, Put, PutFault, Taken};
@@ -24,6 +25,7 @@ pub struct Flight {
     writes: WritesByTicket,
     // The ticket of each sector's write.
     tickets: OrderedMap<u64, Ticket>,
+    counts: Counts,
     next: u64,
 }
 
@@ -33,6 +35,7 @@ impl Drop for Flight {
         let Flight {
             writes: _writes,
             tickets: _tickets,
+            counts: _counts,
             next: _,
         } = self;
     }
@@ -52,7 +55,7 @@ impl Model for Flight {
       room = min (min flight.writes.spare flight.tickets.spare) (2 ^ 64 - 1 - flight.next);
     } };
 
-    ghost invariant = { λ flight. AreKept flight.writes.writes flight.next flight.tickets.entries };
+    ghost invariant = { λ flight. AreKept flight.writes.writes flight.writes.flying flight.next flight.tickets.entries flight.counts };
 }
 
 impl Flight {
@@ -65,6 +68,7 @@ impl Flight {
         Flight {
             writes: WritesByTicket::new(alloc),
             tickets: OrderedMap::new(alloc),
+            counts: Counts::new(),
             next: 0,
         }
     }
@@ -149,18 +153,18 @@ impl Flight {
         self.tickets.get(&sector.0).copied()
     }
 
-    /// Whether a write of a server's present mount is in flight. It takes no memory, and time in the number of writes in flight.
+    /// Whether a write of a server's present mount is in flight. It takes no memory, and the same time however many writes are in flight.
     pub fn has_flights(&self, server: ServerId) -> bool
         ensures { result ≡ has_flights self.now.flying server.0 }
     {
-        self.writes.has_of(server, None)
+        self.counts.get(server) > 0
     }
 
     /// Whether one in place under this lock is. It takes no memory, and time in the number of writes in flight.
     pub fn has_flights_under(&self, server: ServerId, lock: LockId) -> bool
         ensures { result ≡ has_flights_under self.now.flying server.0 lock }
     {
-        self.writes.has_of(server, Some(lock))
+        self.writes.has_under(server, lock)
     }
 
     /// Puts a write in flight that is of no log and under no lock, as one of a recovery: the same as `issue_as` with that.
@@ -175,10 +179,12 @@ impl Flight {
 
     /// Puts a write in flight that is of this, and of the present mount of its server, and gives its ticket, the next one. `Busy` comes exactly
     /// where a write of this sector is in flight, and shows that write's ticket. After a refusal nothing has changed; `NoMemory` doesn't come
-    /// where there is room. It takes time logarithmic in the number of writes in flight.
+    /// where there is room: after `busy` has found none and `reserve` has made room it can't fail. It takes time logarithmic in the number of
+    /// writes in flight.
     pub fn issue_as(&mut self, put: Put, purpose: Purpose) -> Result<Ticket, IssueFault>
         ensures outcome { IssueOutcome self.old self.new put purpose result }
         ensures sure { 0 < self.old.room → result ≢ Err IssueFault.NoMemory }
+        ensures free { busy_with self.old.writes put.sector.0 ≡ None → 0 < self.old.room → IsOk result }
         ensures room { self.old.room ≤ self.new.room + 1 }
         ensures refused { OnErr result (self.old.room ≤ self.new.room) }
     {
@@ -207,6 +213,8 @@ impl Flight {
             purpose,
             present: true,
         };
+        let _ = self.writes.count();
+        self.counts.more(put.server);
         self.tickets.put(put.sector.0, ticket);
         self.writes.push(ticket, flying);
         self.next += 1;
@@ -237,6 +245,7 @@ impl Flight {
         ensures room { self.new.room ≡ self.old.room }
     {
         self.writes.leave_behind(server);
+        self.counts.clear(server);
     }
 
     /// A write in flight is lost. It takes no memory.
@@ -249,7 +258,9 @@ impl Flight {
     {
         match self.writes.get(t) {
             Some(flying) => {
-                let sector = flying.put.sector;
+                let Put { sector, server, .. } = flying.put;
+                let present = flying.present;
+                self.counts.fewer(server, present);
                 self.tickets.remove(&sector.0);
                 self.writes.remove(t);
             }

@@ -65,15 +65,11 @@ fn is_under(purpose: Purpose, lock: LockId) -> bool
     }
 }
 
-/// The write is of this server's present mount, and where a lock is told, in place under it.
-pub(crate) fn is_of(flying: &Flying, server: ServerId, lock: Option<LockId>) -> bool
+/// The write is of this server's present mount, and in place under this lock.
+pub(crate) fn is_of(flying: &Flying, server: ServerId, lock: LockId) -> bool
     ensures { result ≡ words.is_of server.0 lock flying.now }
 {
-    let is_of_mount = flying.put.server.0 == server.0 && flying.present;
-    match lock {
-        Some(lock) => is_of_mount && is_under(flying.purpose, lock),
-        None => is_of_mount,
-    }
+    flying.put.server.0 == server.0 && flying.present && is_under(flying.purpose, lock)
 }
 
 /// The edit of a box that puts its write under another lock.

@@ -7,6 +7,7 @@
 #![tactic(auto)]
 
 mod by_ticket;
+mod counts;
 mod flight;
 mod flying;
 mod ticket;

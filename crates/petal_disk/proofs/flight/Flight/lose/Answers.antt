@@ -3,8 +3,10 @@ use Rattle.std.proofs.Common.{[], IsSome, sym, subst, ap, ◌∙◌}
 use Rattle.std.proofs.lemmas.Bool.{false≢true}
 use Rattle.sector_bytes.specs.SectorMaps.{Ascend, value_at}
 use Rattle.sector_bytes.proofs.MapLaws.{ascend_without}
-use Rattle.petal_disk.specs.Flights.{AreFlights, busy_with, write_at}
+use Rattle.petal_disk.specs.Flights.{AreFlights, busy_with, without, write_at}
 use Rattle.petal_disk.specs.Flying.{put_of}
+use Rattle.petal_disk.specs.Keeping.{AreCounted}
+use Rattle.petal_disk.proofs.Counting.{AreCounted-without}
 use Rattle.petal_disk.proofs.InFlight.{AreFlights-without}
 use Rattle.petal_disk.proofs.Indexing.{IsIndex-without}
 use Rattle.petal_disk.proofs.flight.Flight.lose.Goals as goal
@@ -23,4 +25,7 @@ invariant_of-self c =
       index = λ q. ap (λ entries. value_at entries q) c.remove.ensures.entries
           ∙ IsIndex-without c.self.inside.tickets.entries c.self.inside.writes.writes t put kept.ordered kept.flights.apart (sym c.in-Some.ensures.writes) kept.index q
           ∙ sym (ap (λ writes. busy_with writes q) c.remove-in-Some.ensures.writes);
+      counted = subst (AreCounted c.fewer.new.self) (sym c.remove-in-Some.ensures.flying)
+          (subst (λ counts. AreCounted counts (without c.self.inside.writes.flying t)) (sym c.fewer.ensures.counts)
+          (AreCounted-without c.self.inside.counts c.self.inside.writes.flying kept.counted t c.in-Some.flying.now c.fewer.ensures.party (sym c.in-Some.ensures.flying)));
     }
