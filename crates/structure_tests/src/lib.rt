@@ -1,5 +1,5 @@
-//! Tests of what the servers keep in memory: sectors with versions, the cache, what of it a line may use, the order of writes, locks, leases and
-//! writes in flight. It holds nothing else, so that no crate with proofs is proved once more for its tests.
+//! Tests of what the servers keep in memory: sectors with versions, the cache, what of it a line may use, the order of writes, locks and sets of them, seen
+//! sectors, leases and writes in flight. It holds nothing else, so that no crate with proofs is proved once more for its tests.
 #![tactic(auto)]
 
 #[cfg(test)]
@@ -14,6 +14,8 @@ mod leases;
 mod locks;
 #[cfg(test)]
 mod many_sectors;
+#[cfg(test)]
+mod phases;
 #[cfg(test)]
 mod usable;
 #[cfg(test)]
