@@ -12,7 +12,10 @@ use Rattle.tree_definitions.specs.Entries.{Entries}
 use Rattle.tree_definitions.specs.Tree.{FileTree, node_at}
 use Rattle.tree_definitions.specs.TreeLines.{path_text, name_below, lines_with, lines_from, tree_lines}
 use Rattle.tree_definitions.proofs.Pairs.{birth_exact, length_put}
-use Rattle.file_tree.proofs.EntryLines.{deeper}
+use Rattle.tree_lines.specs.Shown.{lines_by, lines_shown}
+use Rattle.tree_lines.specs.declared.left.Left.{Left}
+use Rattle.tree_lines.specs.Waiting.{Waiting, lines_left, lines_of, next_birth}
+use Rattle.tree_lines.proofs.LeftLaws.{flat_map_same}
 use Rattle.disk_definitions.specs.declared.inode.Inode.{Inode}
 use Rattle.disk_definitions.specs.declared.param.Param.{Param}
 use Rattle.disk_definitions.specs.Inodes.{is_free_inode, is_file_inode, is_directory_inode, is_link_inode, inode_fits}
@@ -31,7 +34,7 @@ use Rattle.standing_laws.proofs.Shapes.{IsFileShape, IsDirShape, IsLinkShape, Sh
 use Rattle.standing_laws.proofs.Shapes.Shape.{OfFile, OfDir, OfLink}
 use Rattle.standing_laws.proofs.SoundStanding.{disk_range, sound_stands}
 use Rattle.standing_laws.proofs.StandingTree.{standing_is_sound}
-use Rattle.disk_reading.specs.Lined.{AreLinesOf, NodesAgree, inode_line, listed}
+use Rattle.disk_reading.specs.Lined.{AreLinesOf, IsNext, NodesAgree, listed, shown_by, shown_in}
 
 -- ---- what an inode holds is counted in 32 bits
 
@@ -73,7 +76,7 @@ module _ (s : Store) (x : StoredNode) (text : List ℕ) (f : List ℕ × ℕ →
   abbrev entries : Entries
   entries = entries_to (place_at s x) (56 * x.blocks)
 
-  as_kind : (k : ℕ) → x.kind ≡ k → said.Node (path_text text) k x.size (cond (k == 1) x.links 0) ∷ flat_map f (cond (k == 2) entries []) ≡ inode_line text x ∷ flat_map f (listed s x)
+  as_kind : (k : ℕ) → x.kind ≡ k → said.Node (path_text text) k x.size (cond (k == 1) x.links 0) ∷ flat_map f (cond (k == 2) entries []) ≡ lines_shown text (Some (shown_by s x)) f
   as_kind k e = ap (λ k. said.Node (path_text text) k x.size (cond (k == 1) x.links 0) ∷ flat_map f (cond (k == 2) entries [])) (sym e)
 
   dir_long : x.kind ≡ 2 → node_agrees s (Some x) ≡ true → length entries ≡ x.size
@@ -87,7 +90,7 @@ module _ (s : Store) (x : StoredNode) (text : List ℕ) (f : List ℕ × ℕ →
       sym (cond-false (x.kind == 2) (directory_agrees s x) (cond (x.kind == 3) (length x.target == x.size) true) (ap (λ k. k == 2) k) ∙ cond-true (x.kind == 3) (length x.target == x.size) true (ap (λ k. k == 3) k)) ∙ h in
       eqb-true (length x.target) x.size b
 
-  pub node_lines : Shape x → node_agrees s (Some x) ≡ true → lines_with text (Some (read_node s x)) f ≡ inode_line text x ∷ flat_map f (listed s x)
+  pub node_lines : Shape x → node_agrees s (Some x) ≡ true → lines_with text (Some (read_node s x)) f ≡ lines_shown text (Some (shown_by s x)) f
   node_lines (OfFile shape) h =
       ap (λ n. lines_with text (Some n) f) (read_file s x shape.kind) ∙ ap (λ n. said.Node (path_text text) 1 n x.links ∷ []) (length_cells (byte_at s x) x.size) ∙ as_kind 1 shape.kind
   node_lines (OfDir shape) h =
@@ -113,25 +116,38 @@ module _ (segments : ℕ) (sectors : Sectors) where
   read : (b : ℕ) (o : Option StoredNode) → s.inode b ≡ o → node_at tree b ≡ option_map (read_node s) o
   read b o e = node_read s segments (disk_range segments sectors).inodes b ∙ ap (option_map (read_node s)) e
 
-  none_from : (n birth : ℕ) (text : List ℕ) → s.inode birth ≡ None → lines_from n tree text birth ≡ []
-  none_from zero birth text e = refl
-  none_from (suc n) birth text e = ap (λ o. lines_with text o (λ e. lines_from n tree (name_below text e.0) e.1)) (read birth None e)
+  same_from : NodesAgree s → (text : List ℕ) (birth : ℕ) (f g : List ℕ × ℕ → List Said) → ((e : List ℕ × ℕ) → f e ≡ g e) → (o : Option StoredNode) → s.inode birth ≡ o
+      → lines_with text (node_at tree birth) f ≡ lines_shown text (shown_in s birth) g
+  same_from agree text birth f g same None e = ap (λ o. lines_with text o f) (read birth None e) ∙ sym (ap (λ o. lines_shown text (option_map (shown_by s) o) g) e)
+  same_from agree text birth f g same (Some x) e =
+      ap (λ o. lines_with text o f) (read birth (Some x) e)
+      ∙ node_lines s x text f (disk_shape segments sectors birth x e) (sym (ap (node_agrees s) e) ∙ agree birth)
+      ∙ ap (λ ls. said.Node (path_text text) x.kind x.size (cond (x.kind == 1) x.links 0) ∷ ls) (flat_map_same f g (listed s x) same)
+      ∙ sym (ap (λ o. lines_shown text (option_map (shown_by s) o) g) e)
 
-  pub no_lines : (n birth : ℕ) (text : List ℕ) (lines : List Said) → s.inode birth ≡ None → lines ≡ lines ++ lines_from n tree text birth
-  no_lines n birth text lines e = sym (ap (λ ls. lines ++ ls) (none_from n birth text e) ∙ append-nil lines)
-
-  pub first_lines : (n birth : ℕ) (text : List ℕ) (x : StoredNode) (entries : Entries) (lines pushed : List Said) → 0 < n → s.inode birth ≡ Some x → node_agrees s (Some x) ≡ true
-      → pushed ≡ lines ++ inode_line text x ∷ [] → entries ≡ listed s x
-      → pushed ++ flat_map (λ e. lines_from (n - 1) tree (name_below text e.0) e.1) entries ≡ lines ++ lines_from n tree text birth
-  first_lines n birth text x entries lines pushed some found agrees e is =
-      let f : List ℕ × ℕ → List Said = λ e. lines_from (n - 1) tree (name_below text e.0) e.1 in
-      let own : lines_from n tree text birth ≡ inode_line text x ∷ flat_map f (listed s x)
-      = deeper n tree text birth some ∙ ap (λ o. lines_with text o f) (read birth (Some x) found) ∙ node_lines s x text f (disk_shape segments sectors birth x found) agrees in
-      ap (λ ls. ls ++ flat_map f entries) e ∙ append_assoc lines (inode_line text x ∷ []) (flat_map f entries) ∙ ap (λ es. lines ++ inode_line text x ∷ flat_map f es) is ∙ ap (λ ls. lines ++ ls) (sym own)
+  pub same_lines : NodesAgree s → (n : ℕ) (text : List ℕ) (birth : ℕ) → lines_from n tree text birth ≡ lines_by (shown_in s) n text birth
+  same_lines agree zero text birth = refl
+  same_lines agree (suc n) text birth =
+      same_from agree text birth (λ e. lines_from n tree (name_below text e.0) e.1) (λ e. lines_by (shown_in s) n (name_below text e.0) e.1) (λ e. same_lines agree n (name_below text e.0) e.1) (s.inode birth) refl
 
   pub nodes_agree : (most : ℕ) → IsSound most segments sectors → NodesAgree s
   nodes_agree most sound i =
       ⊎_elim (λ l. all_at (64 * segments) (λ i. node_agrees s (s.inode i)) sound.consistent.nodes i l) (λ l. ap (node_agrees s) ((disk_range segments sectors).inodes i l)) (cases_lt i (64 * segments))
+
+-- ---- the next node
+
+pub none_next : (s : Store) (w : Waiting) → next_birth w.nodes ≡ None → lines_left (shown_in s) w ≡ []
+none_next s w none = go w.nodes none
+  where
+    go : (nodes : List Left) → next_birth nodes ≡ None → flat_map (lines_of (shown_in s) w.text) nodes ≡ []
+    go [] none = refl
+    go (l ∷ ls) none = absurd (cc)
+
+pub inode_shown : (s : Store) (x : StoredNode) (birth : ℕ) → s.inode birth ≡ Some x → shown_in s birth ≡ Some (shown_by s x)
+inode_shown s x birth e = ap (option_map (shown_by s)) e
+
+pub inode_gone : (s : Store) (birth : ℕ) → s.inode birth ≡ None → shown_in s birth ≡ None
+inode_gone s birth e = ap (option_map (shown_by s)) e
 
 -- ---- the whole
 

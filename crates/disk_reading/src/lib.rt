@@ -19,5 +19,5 @@ pub mod sectors;
 pub use decoded_disk::DecodedDisk;
 pub use disk_definitions::Disk;
 pub use disk_replay::{greatest, replayed};
-pub use lines::lines_read;
+pub use lines::DiskLines;
 pub use read::tree_read;

@@ -1,15 +1,16 @@
 // The lines of the tree that a disk stands for, read off its inodes and directories: no byte of a file is read.
-ghost use Rattle.std.specs.Prelude.{◌≡◌, ◌≤◌, ◌*◌, ◌∷◌, ◌++◌, [], ◌==◌, true, Some, length, if◌then◌else◌, IfOk, IfSome, OnOk};
+ghost use Rattle.std.specs.Prelude.{◌≡◌, ◌≤◌, ◌*◌, ◌∷◌, [], ◌==◌, true, Some, length, if◌then◌else◌, IfOk, IfSome, OnErr};
 ghost use Rattle.std.specs.Option.{option_map};
 ghost use Rattle.tree_definitions.specs.Tree.{FileTree};
-ghost use Rattle.tree_definitions.specs.TreeLines.{path_text, name_below, lines_from, tree_lines};
+ghost use Rattle.tree_definitions.specs.TreeLines.{tree_lines};
+ghost use Rattle.tree_lines.specs.Waiting.{lines_left};
 ghost use Rattle.disk_definitions.specs.Inodes.{inode_fits};
 ghost use Rattle.sector_bytes.specs.Sectors.{sectors_of};
 ghost use Rattle.disk_definitions.specs.Store.{stored};
 ghost use Rattle.disk_definitions.specs.Standing.{StandsFor};
 ghost use Rattle.standing_laws.specs.ReadTree.{nodes_to, tree_in};
 ghost use Rattle.standing_laws.specs.Soundness.{node_agrees};
-ghost use Rattle.disk_reading.specs.Lined.{AreLinesOf, NodesAgree, inode_line, listed};
+ghost use Rattle.disk_reading.specs.Lined.{AreLinesOf, Gives, IsNext, NodesAgree, listed, shown_in};
 ghost use Rattle.disk_reading.specs.Seen.{store_in};
 
 use crate::decoded_disk::DecodedDisk;
@@ -17,28 +18,35 @@ use crate::nodes::read_entries;
 use crate::sectors::used_inode;
 use disk_definitions::{Disk, Inode};
 use frang_base::limits::{KIND_DIRECTORY, KIND_FILE, ROOT_INODE, SEGMENT_INODES, SEGMENTS_MAX};
-use frang_base::{Name, NoMemory, Said, Sector, Text};
+use frang_base::{NoMemory, Said, Sector};
 use std::alloc::Global;
+use std::marker::Model;
 use tree_definitions::Entries;
+use tree_lines::LinesLeft;
 
-// The text of a path, which is `/` at the root.
-fn path_text(alloc: Global, text: &Text) -> Result<Text, NoMemory>
-    ensures { IfOk result (λ shown. shown ≡ path_text text.now) }
-{
-    match text.as_slice() {
-        [] => Text::of(alloc, b"/"),
-        [_, ..] => text.try_copy(),
-    }
+/// The lines of the tree of a disk, seen as those that are left. What is kept of them are the names down to the present node and the entries that
+/// are left of its directories.
+#[derive(Drop)]
+pub struct DiskLines<'a> {
+    alloc: Global,
+    disk: DecodedDisk<'a>,
+    segments: u32,
+    left: LinesLeft,
 }
 
-// The text of a name below a path's.
-fn name_below(text: &Text, name: &Name) -> Result<Text, NoMemory>
-    ensures { IfOk result (λ below. below ≡ name_below text.now name.now) }
-{
-    let mut below = text.try_copy()?;
-    below.push(b'/')?;
-    below.append(name.as_slice())?;
-    Ok(below)
+impl<'a> Model for DiskLines<'a> {
+    ghost use Rattle.std.specs.Prelude.{List, ◌≤◌};
+    ghost use Rattle.frang_base.specs.declared.limits.TheConstants.{SEGMENTS_MAX};
+    ghost use Rattle.frang_base.specs.declared.said.Said.{Said};
+    ghost use Rattle.tree_lines.specs.Waiting.{lines_left};
+    ghost use Rattle.disk_reading.specs.Lined.{NodesAgree, shown_in};
+    ghost use Rattle.disk_reading.specs.Seen.{store_in};
+
+    ghost Value = { List Said };
+
+    ghost view = { λ d. lines_left (shown_in (store_in d.segments d.disk)) d.left };
+
+    ghost invariant = { λ d. (d.segments ≤ SEGMENTS_MAX) × NodesAgree (store_in d.segments d.disk) };
 }
 
 // The links that the line of an inode shows: those of a file.
@@ -50,36 +58,6 @@ fn links_shown(inode: &Inode) -> u32
     } else {
         0
     }
-}
-
-// The line of an inode in use.
-#[tactic(auto, using(crate::proofs::NodeLines::small_size))]
-fn inode_line(alloc: Global, text: &Text, inode: &Inode) -> Result<Said, NoMemory>
-    requires { inode_fits inode.now ≡ true }
-    ensures { IfOk result (λ line. line ≡ inode_line text.now (stored inode.now)) }
-{
-    let path = path_text(alloc, text)?;
-    Ok(Said::Node {
-        path,
-        kind: inode.kind,
-        size: inode.size as u32,
-        links: links_shown(inode),
-    })
-}
-
-// Adds the line of an inode in use.
-fn add_line(
-    alloc: Global,
-    text: &Text,
-    inode: &Inode,
-    lines: &mut Vec<Said>,
-) -> Result<(), NoMemory>
-    requires { inode_fits inode.now ≡ true }
-    ensures { OnOk result (lines.new.items ≡ lines.old.items ++ inode_line text.now (stored inode.now) ∷ []) }
-{
-    let line = inode_line(alloc, text, inode)?;
-    lines.push(line)?;
-    Ok(())
 }
 
 // The entries of an inode in use, where that is a directory.
@@ -116,33 +94,40 @@ fn inode_of(disk: &DecodedDisk<'_>, segments: u32, birth: u64) -> Option<Inode>
     used_inode(disk, segments, birth as u32)
 }
 
-// Adds the lines from a node on, so many levels deep.
-fn add_lines(
+// The inode of the next node. Nodes that aren't there have no lines.
+fn next_inode(left: &mut LinesLeft, disk: &DecodedDisk<'_>, segments: u32) -> Option<Inode>
+    requires { segments ≤ SEGMENTS_MAX }
+    ensures same { lines_left (shown_in (store_in segments disk.now)) left.new ≡ lines_left (shown_in (store_in segments disk.now)) left.old }
+    ensures next { IsNext (store_in segments disk.now) left.new (option_map stored result) }
+    ensures fits { IfSome result (λ x. inode_fits x ≡ true) }
+{
+    while let Some(birth) = left.wanted() {
+        match inode_of(disk, segments, birth) {
+            Some(inode) => return Some(inode),
+            None => left.pass(),
+        }
+    }
+    None
+}
+
+// The line of the next node, whose inode this is.
+#[tactic(auto, using(crate::proofs::NodeLines::small_size))]
+fn inode_line(
+    left: &mut LinesLeft,
     alloc: Global,
     disk: &DecodedDisk<'_>,
     segments: u32,
-    depth: u32,
-    text: &Text,
-    birth: u64,
-    lines: &mut Vec<Said>,
-) -> Result<(), NoMemory>
+    inode: &Inode,
+) -> Result<Said, NoMemory>
     requires few { segments ≤ SEGMENTS_MAX }
-    requires agree { NodesAgree (store_in segments disk.now) }
-    ensures { OnOk result (lines.new.items ≡ lines.old.items ++ lines_from depth (tree_in segments (store_in segments disk.now)) text.now birth) }
+    requires fits { inode_fits inode.now ≡ true }
+    requires agrees { node_agrees (store_in segments disk.now) (Some (stored inode.now)) ≡ true }
+    requires next { IsNext (store_in segments disk.now) left.old (Some (stored inode.now)) }
+    ensures ok { IfOk result (λ line. lines_left (shown_in (store_in segments disk.now)) left.old ≡ line ∷ lines_left (shown_in (store_in segments disk.now)) left.new) }
+    ensures err { OnErr result (lines_left (shown_in (store_in segments disk.now)) left.new ≡ lines_left (shown_in (store_in segments disk.now)) left.old) }
 {
-    if depth == 0 {
-        return Ok(());
-    }
-    let Some(inode) = inode_of(disk, segments, birth) else {
-        return Ok(());
-    };
-    add_line(alloc, text, &inode, lines)?;
-    let entries = listed(alloc, disk, segments, &inode)?;
-    for (name, child) in entries.as_map() {
-        let below = name_below(text, name)?;
-        add_lines(alloc, disk, segments, depth - 1, &below, *child, lines)?;
-    }
-    Ok(())
+    let entries = listed(alloc, disk, segments, inode)?;
+    left.show(inode.kind, inode.size as u32, links_shown(inode), &entries)
 }
 
 // The number of nodes.
@@ -161,34 +146,49 @@ fn count_nodes(disk: &DecodedDisk<'_>, segments: u32) -> u32
 }
 
 // The lines of the tree that is read off a disk.
-fn lines_of(alloc: Global, disk: &DecodedDisk<'_>, segments: u32) -> Result<Vec<Said>, NoMemory>
+fn lines_of(alloc: Global, disk: DecodedDisk<'_>, segments: u32) -> DiskLines<'_>
     requires few { segments ≤ SEGMENTS_MAX }
-    requires agree { NodesAgree (store_in segments disk.now) }
-    ensures { IfOk result (λ lines. lines.items ≡ tree_lines (tree_in segments (store_in segments disk.now))) }
+    requires agree { NodesAgree (store_in segments disk) }
+    ensures { result ≡ tree_lines (tree_in segments (store_in segments disk.entry)) }
 {
-    let mut lines = Vec::new(alloc);
-    let root = Text::new(alloc);
-    let depth = count_nodes(disk, segments);
-    add_lines(
+    let depth = count_nodes(&disk, segments);
+    let left = LinesLeft::of(alloc, u64::from(ROOT_INODE), depth as usize);
+    DiskLines {
         alloc,
         disk,
         segments,
-        depth,
-        &root,
-        u64::from(ROOT_INODE),
-        &mut lines,
-    )?;
-    Ok(lines)
+        left,
+    }
 }
 
-/// The lines of the tree for which a disk stands, read off its inodes and directories: no byte of a file is read.
-pub fn lines_read(alloc: Global, disk: &Disk) -> Result<Vec<Said>, NoMemory>
-    requires { (tree : FileTree) × StandsFor (sectors_of disk.now) tree }
-    ensures { IfOk result (λ lines. AreLinesOf (sectors_of disk.now) lines.items) }
-{
-    let Some(param) = param_block::decode(&disk.get(Sector(0))) else {
-        unreachable!()
-    };
-    let decoded = DecodedDisk::of(alloc, disk, param.segments)?;
-    lines_of(alloc, &decoded, param.segments)
+impl<'a> DiskLines<'a> {
+    /// The lines of the tree for which a disk stands, read off its inodes and directories: no byte of a file is read.
+    pub fn of(alloc: Global, disk: &'a Disk) -> Result<DiskLines<'a>, NoMemory>
+        requires { (tree : FileTree) × StandsFor (sectors_of disk.now) tree }
+        ensures { IfOk result (λ lines. AreLinesOf (sectors_of disk.now) lines) }
+    {
+        let Some(param) = param_block::decode(&disk.get(Sector(0))) else {
+            unreachable!()
+        };
+        let decoded = DecodedDisk::of(alloc, disk, param.segments)?;
+        Ok(lines_of(alloc, decoded, param.segments))
+    }
+
+    /// The next line. `None` exactly where none is left. After `NoMemory` the same lines are left.
+    pub fn next(&mut self) -> Result<Option<Said>, NoMemory>
+        ensures ok { IfOk result (Gives self.old self.new) }
+        ensures err { OnErr result (self.new ≡ self.old) }
+    {
+        let Some(inode) = next_inode(&mut self.left, &self.disk, self.segments) else {
+            return Ok(None);
+        };
+        let line = inode_line(
+            &mut self.left,
+            self.alloc,
+            &self.disk,
+            self.segments,
+            &inode,
+        )?;
+        Ok(Some(line))
+    }
 }

@@ -8,7 +8,7 @@ use Rattle.frang_base.specs.declared.fault.NoMemory.{NoMemory}
 use Rattle.frang_base.specs.declared.said.Said.{Said}
 use Rattle.frang_outside.specs.Outside.{State, Rose}
 use Rattle.frang_outside.specs.Files.{State as FilesState, Holds, IsFile, OthersStay}
-use Rattle.sector_bytes.specs.Sectors.{SameSectors, sectors_of}
+use Rattle.sector_bytes.specs.Sectors.{SameSectors, Sectors, sectors_of}
 use Rattle.image_file.specs.Images.{Blocks, image_in}
 use Rattle.image_file.specs.declared.refusal.ImageRead.TheVariants as refused
 use Rattle.image_file.specs.Answers.{GivesImage}
@@ -16,9 +16,9 @@ use Rattle.disk_definitions.specs.Replay.{replayed}
 use Rattle.image_commands.specs.declared.end.ImageEnd.{ImageEnd}
 use Rattle.image_commands.specs.declared.end.ImageEnd.TheVariants as end
 use Rattle.image_commands.specs.Saying.{Says, SaysSome, SaysAll}
-use Rattle.image_commands.specs.Lines.{IsRecovery, GivesLines}
+use Rattle.image_commands.specs.Lines.{EndsWithTree, IsRecovery, IsTree}
 use Rattle.image_commands.specs.Ends.{IsImageOf, sector_at, Ends, EndsTold, EndsSaving, EndsRecovery, MaySave, OnlySaves}
-use Rattle.image_commands.specs.Steps.{ReadsBytes, GivesDisk, ReadsDisk, SaysLines, SaysTold, SavesDisk, SavesAfter, SaysAndSaves, RecoversDisk}
+use Rattle.image_commands.specs.Steps.{ReadsBytes, GivesDisk, ReadsDisk, SaysTold, SavesDisk, SavesAfter, SaysAndSaves, SaysTree, RecoversDisk, TellsDisk}
 
 -- what holds of a file's bytes holds of the file
 file_of : (holds : Option Holds) (name bytes : List ℕ) (P : List ℕ → Type 0) → IsFile holds name (λ now. now ≡ bytes) → P bytes → IsFile holds name P
@@ -70,11 +70,6 @@ module _ (T : Blocks → List Said → Type 0) (name : List ℕ) (files files_af
   pub ended_standing : (blocks : Blocks) → IsImageOf files.holds name blocks → ((lines : List Said) → T blocks lines → ⊥) → Says after.acts [] → Ends T name files files_after out after (end.BadImage 0 8 0)
   ended_standing blocks i none s = (inr (refl, refl, refl, record { blocks = blocks; image = i; none = none }), s)
 
-  pub ended_lines : (blocks : Blocks) (lines : Result (Option (Vec Said Global)) NoMemory) (e : ImageEnd) → IsImageOf files.holds name blocks → IfOk lines (GivesLines T blocks) → SaysLines out after lines e → Ends T name files files_after out after e
-  ended_lines blocks (Ok (Some v)) e i g s = ended_saying blocks v.items e i g s
-  ended_lines blocks (Ok None) e i g s = subst (Ends T name files files_after out after) (sym s.0) (ended_standing blocks i g s.1)
-  ended_lines blocks (Err want) e i g s = subst (Ends T name files files_after out after) (sym s.0) (inl s.1)
-
   -- the same of a command whose lines every disk has
   pub told_reading : (e : ImageEnd) → ReadsDisk files files_after name (Err e) → Says after.acts [] → EndsTold T name files files_after out after e
   told_reading end.Done r s = absurd r
@@ -98,7 +93,27 @@ module _ (T : Blocks → List Said → Type 0) (name : List ℕ) (files files_af
   told_lines blocks (Ok v) e i t s = told_saying blocks v.items e i t s
   told_lines blocks (Err want) e i t s = subst (EndsTold T name files files_after out after) (sym s.0) (inl s.1)
 
+module _ (name : List ℕ) (files files_after : FilesState) (out after : State) where
+  pub ended_telling : (blocks : Blocks) (e : ImageEnd) → IsImageOf files.holds name blocks → TellsDisk out after blocks e → Ends IsTree name files files_after out after e
+  ended_telling blocks e i (inl h) = ended_saying IsTree name files files_after out after blocks h.0 e i h.1 h.2
+  ended_telling blocks e i (inr h) = ⊎_elim
+      (λ q. subst (Ends IsTree name files files_after out after) (sym q) (inl h.0))
+      (λ q. subst (Ends IsTree name files files_after out after) (sym q.0) (ended_standing IsTree name files files_after out after blocks i q.1 h.0)) h.1
+
 -- ---- recoveries
+
+-- lines that end with those of a disk's tree are said, and then the disk is saved, where that is asked
+pub told_only : (files : FilesState) (out after : State) (sectors : Sectors) (before : List Said) (disk : Blocks) (save : Option (List ℕ)) (e : ImageEnd)
+    → save ≡ None → SaysTree out after sectors before e → (lines : List Said) × EndsWithTree sectors before lines × SaysAndSaves files files out after lines disk save e
+told_only files out after sectors before disk None e q s = (s.0, s.1, (s.2, refl))
+told_only files out after sectors before disk (Some name) e q s = absurd (cc)
+
+pub told_and_saved : (files files_after : FilesState) (out after : State) (sectors : Sectors) (before : List Said) (disk : Blocks) (save : Option (List ℕ)) (name : List ℕ) (said e : ImageEnd)
+    → save ≡ Some name → SaysTree out after sectors before said → SavesAfter files files_after name disk said e → (lines : List Said) × EndsWithTree sectors before lines × SaysAndSaves files files_after out after lines disk save e
+told_and_saved files files_after out after sectors before disk None name said e q s d = absurd (cc)
+told_and_saved files files_after out after sectors before disk (Some held) name said e q s d =
+    let same : name ≡ held = cc in
+    (s.0, s.1, (said, s.2, subst (λ n. SavesAfter files files_after n disk said e) same d))
 
 pub others_same : (holds : Option Holds) (name : List ℕ) → OthersStay holds holds name
 others_same None name = refl

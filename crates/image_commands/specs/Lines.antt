@@ -6,7 +6,6 @@ use Rattle.frang_base.specs.declared.change.Redo.{Redo}
 use Rattle.frang_base.specs.declared.sector.OpNo.{OpNo}
 use Rattle.frang_base.specs.declared.said.Said.{Said}
 use Rattle.frang_base.specs.declared.said.Said.TheVariants as said
-use Rattle.std.specs.Global.{Vec}
 use Rattle.tree_definitions.specs.Numbers.{below}
 use Rattle.tree_definitions.specs.Tree.{FileTree}
 use Rattle.tree_definitions.specs.TreeLines.{tree_lines}
@@ -66,8 +65,3 @@ pub record IsCheck (blocks : Blocks) (lines : List Said) : Type 0 where
   pub report : Report
   pub told : IsReport (replayed (sectors_of blocks)) report
   pub is : lines ≡ said.Shown (report_text report) ∷ []
-
--- the lines, or that there are none
-abbrev pub GivesLines : (Blocks → List Said → Type 0) → Blocks → Option (Vec Said) → Type 0
-GivesLines T blocks None = (lines : List Said) → T blocks lines → ⊥
-GivesLines T blocks (Some v) = T blocks v.items

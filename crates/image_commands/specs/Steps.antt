@@ -1,22 +1,23 @@
 -- What the steps of a command give: the bytes of a file, a disk, lines that are said, a disk that is saved.
-use Rattle.std.specs.Prelude.{◌≡◌, ◌⊎◌, ◌≤◌, ◌<◌, ℕ, Option, Some, None, Result, Ok, Err, List, [], length, Vec}
+use Rattle.std.specs.Prelude.{◌≡◌, ◌⊎◌, ◌≤◌, ◌<◌, ℕ, Option, Some, None, Result, Ok, Err, List, [], ◌∷◌, length, Vec}
 use Rattle.std.specs.declared.alloc.Global.{Global}
 use Rattle.frang_base.specs.declared.limits.TheConstants.{IMAGE_BYTES_MAX}
 use Rattle.frang_base.specs.declared.fault.NoMemory.{NoMemory}
 use Rattle.frang_base.specs.declared.said.Said.{Said}
+use Rattle.frang_base.specs.declared.said.Said.TheVariants as said
 use Rattle.frang_outside.specs.declared.outside.SayFault.{SayFault}
 use Rattle.frang_outside.specs.declared.outside.SayFault.TheVariants.{Failed, NoMemory as WantsMemory}
-use Rattle.frang_outside.specs.Outside.{State, Rose}
+use Rattle.frang_outside.specs.Outside.{State, Rose, told_more}
 use Rattle.frang_outside.specs.Files.{State as FilesState, IsFile, OthersStay}
-use Rattle.sector_bytes.specs.Sectors.{SameSectors, sectors_of}
+use Rattle.sector_bytes.specs.Sectors.{SameSectors, Sectors, sectors_of}
 use Rattle.disk_definitions.specs.Replay.{replayed}
-use Rattle.image_commands.specs.Lines.{IsRecovery}
+use Rattle.image_commands.specs.Lines.{EndsWithTree, IsRecovery, IsTree}
 use Rattle.image_file.specs.Images.{Blocks, image_in, image_text}
 use Rattle.image_file.specs.declared.refusal.ImageRead.TheVariants as refused
 use Rattle.image_file.specs.Answers.{GivesImage}
 use Rattle.image_commands.specs.declared.end.ImageEnd.{ImageEnd}
 use Rattle.image_commands.specs.declared.end.ImageEnd.TheVariants as end
-use Rattle.image_commands.specs.Saying.{Says, SaysAll}
+use Rattle.image_commands.specs.Saying.{said_act, Says, SaysAll}
 use Rattle.image_commands.specs.Ends.{IsImageOf, IsNoImage, sector_at}
 
 -- how a command ends by a say that was refused after so many lines
@@ -48,11 +49,23 @@ ReadsDisk old new name (Err end.TooLong) = IsFile old.holds name (λ bytes. IMAG
 ReadsDisk old new name (Err (end.BadImage at kind sector)) = IsNoImage old.holds name at kind sector
 ReadsDisk old new name (Err _) = ⊥
 
--- the lines of a disk are said, where it has some and memory was there
-abbrev pub SaysLines : State → State → Result (Option (Vec Said Global)) NoMemory → ImageEnd → Type 0
-SaysLines old new (Ok (Some lines)) outcome = SaysAll old new lines.items outcome
-SaysLines old new (Ok None) outcome = (outcome ≡ end.BadImage 0 8 0) × Says new.acts []
-SaysLines old new (Err want) outcome = (outcome ≡ end.NoMemory) × Says new.acts []
+-- the first of the lines that are left is said, or the end where none is left; or it is refused, after so many lines, or memory was short
+abbrev pub SaysNext : State → State → ℕ → List Said → List Said → Option ImageEnd → Type 0
+SaysNext old new count left rest None = (line : Said) × (left ≡ line ∷ rest) × (new.acts ≡ told_more old.acts (said_act line))
+SaysNext old new count left rest (Some end.Done) = (left ≡ []) × (new.acts ≡ told_more old.acts (said_act said.End))
+SaysNext old new count left rest (Some end.NoMemory) = new.acts ≡ old.acts
+SaysNext old new count left rest (Some (end.Mute at)) = (at ≡ count) × (new.acts ≡ old.acts) × Rose old.say_faults new.say_faults
+SaysNext old new count left rest (Some _) = ⊥
+
+-- lines that end with those of the disk's tree are said
+abbrev pub SaysTree : State → State → Sectors → List Said → ImageEnd → Type 0
+SaysTree old new sectors before outcome = (lines : List Said) × EndsWithTree sectors before lines × SaysAll old new lines outcome
+
+-- the lines of a disk's tree are said, or nothing is: memory was short, or there are no lines
+abbrev pub TellsDisk : State → State → Blocks → ImageEnd → Type 0
+TellsDisk old new blocks outcome =
+    ((lines : List Said) × IsTree blocks lines × SaysAll old new lines outcome)
+    ⊎ (Says new.acts [] × ((outcome ≡ end.NoMemory) ⊎ ((outcome ≡ end.BadImage 0 8 0) × ((lines : List Said) → IsTree blocks lines → ⊥))))
 
 -- the lines are said, where memory was there for them
 abbrev pub SaysTold : State → State → Result (Vec Said Global) NoMemory → ImageEnd → Type 0

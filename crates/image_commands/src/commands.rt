@@ -1,18 +1,20 @@
 // The commands on images.
-ghost use Rattle.std.specs.Prelude.{◌≡◌, [], true, is_some};
+ghost use Rattle.std.specs.Prelude.{◌≡◌, List, [], true, is_some};
+ghost use Rattle.frang_base.specs.declared.said.Said.{Said as TheSaid};
 ghost use Rattle.std.specs.Option.{option_map};
 ghost use Rattle.sector_bytes.specs.Sectors.{sectors_of};
 ghost use Rattle.disk_definitions.specs.Params.{param_in};
+ghost use Rattle.report_definitions.specs.Laws.{StandsForSome};
 ghost use Rattle.image_commands.specs.declared.end.ImageEnd.TheVariants as end;
 ghost use Rattle.image_commands.specs.Saying.{Says};
-ghost use Rattle.image_commands.specs.Lines.{IsCheck, IsLog, IsTree};
+ghost use Rattle.image_commands.specs.Lines.{EndsWithTree, IsCheck, IsLog, IsTree};
 ghost use Rattle.image_commands.specs.Ends.{Ends, EndsRecovery, EndsTold, OnlySaves};
-ghost use Rattle.image_commands.specs.Steps.{RecoversDisk, SavesAfter, SavesDisk, SaysAndSaves, SaysLines, SaysTold};
+ghost use Rattle.image_commands.specs.Steps.{RecoversDisk, SavesAfter, SavesDisk, SaysAndSaves, SaysTold, TellsDisk};
 
 use crate::end::ImageEnd;
-use crate::lines::{Recovery, check_said, log_said, recovery_of, tree_said};
+use crate::lines::{Recovery, check_said, log_said, recovery_of, sound_replay};
 use crate::read::read_disk;
-use crate::say::say_all;
+use crate::say::{say_all, say_tree};
 use disk_definitions::Disk;
 use frang_base::{NoMemory, Said};
 use frang_outside::{FileFault, Files, Outside};
@@ -31,22 +33,6 @@ fn no_tree() -> ImageEnd
     }
 }
 
-// Says the lines of a disk, where it has some.
-fn say_lines<O: Outside>(
-    alloc: Global,
-    lines: Result<Option<Vec<Said>>, NoMemory>,
-    out: &mut O,
-) -> ImageEnd
-    requires { Says (O.state out.old).acts [] }
-    ensures { SaysLines (O.state out.old) (O.state out.new) lines result }
-{
-    match lines {
-        Ok(Some(lines)) => say_all(alloc, &lines, out),
-        Ok(None) => no_tree(),
-        Err(_) => ImageEnd::NoMemory,
-    }
-}
-
 // Says the lines of a disk.
 fn say_told<O: Outside>(alloc: Global, lines: Result<Vec<Said>, NoMemory>, out: &mut O) -> ImageEnd
     requires { Says (O.state out.old).acts [] }
@@ -54,6 +40,26 @@ fn say_told<O: Outside>(alloc: Global, lines: Result<Vec<Said>, NoMemory>, out: 
 {
     match lines {
         Ok(lines) => say_all(alloc, &lines, out),
+        Err(_) => ImageEnd::NoMemory,
+    }
+}
+
+// Says the lines of the tree for which a disk stands once its logs are replayed, and the end.
+fn tell_disk<R: Threads + Sync, O: Outside>(
+    rt: &R,
+    alloc: Global,
+    disk: Disk,
+    out: &mut O,
+) -> ImageEnd
+    requires says { Says (O.state out.old).acts [] }
+    requires parameters { is_some (param_in (sectors_of disk 0)) ≡ true }
+    ensures { TellsDisk (O.state out.old) (O.state out.new) disk result }
+{
+    match sound_replay(rt, alloc, disk) {
+        Ok(found) => match found {
+            Some(new) => say_tree(alloc, &new, &[], out),
+            None => no_tree(),
+        },
         Err(_) => ImageEnd::NoMemory,
     }
 }
@@ -71,7 +77,7 @@ pub fn tree<R: Threads + Sync, F: Files, O: Outside>(
     ensures untouched { (F.state files.new).holds ≡ (F.state files.old).holds }
 {
     match read_disk(alloc, image, files) {
-        Ok(disk) => say_lines(alloc, tree_said(rt, alloc, disk), out),
+        Ok(disk) => tell_disk(rt, alloc, disk, out),
         Err(end) => end,
     }
 }
@@ -158,10 +164,11 @@ fn say_and_save<F: Files, O: Outside>(
     files: &mut F,
     out: &mut O,
 ) -> ImageEnd
-    requires { Says (O.state out.old).acts [] }
-    ensures { SaysAndSaves (F.state files.old) (F.state files.new) (O.state out.old) (O.state out.new) recovery.now.lines.items recovery.now.disk (option_map (λ s. s.now) save.entry) result }
+    requires says { Says (O.state out.old).acts [] }
+    requires stands { StandsForSome (sectors_of recovery.now.disk) }
+    ensures { (lines : List TheSaid) × EndsWithTree (sectors_of recovery.now.disk) recovery.now.before.items lines × SaysAndSaves (F.state files.old) (F.state files.new) (O.state out.old) (O.state out.new) lines recovery.now.disk (option_map (λ s. s.now) save.entry) result }
 {
-    let said = say_all(alloc, &recovery.lines, out);
+    let said = say_tree(alloc, &recovery.disk, &recovery.before, out);
     match save {
         None => said,
         Some(save) => save_after(alloc, said, save, &recovery.disk, files),

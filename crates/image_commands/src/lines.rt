@@ -4,11 +4,10 @@ ghost use Rattle.sector_bytes.specs.Sectors.{sectors_of, Sectors};
 ghost use Rattle.disk_definitions.specs.Params.{param_in};
 ghost use Rattle.disk_replay.specs.Laid.{AreGreatest};
 ghost use Rattle.report_definitions.specs.Laws.{StandsForSome};
-ghost use Rattle.image_commands.specs.Lines.{recovered_below, recovered_line, redo_line, EndsWithTree, GivesLines, IsCheck, IsLog, IsTree};
-ghost use Rattle.image_commands.specs.Recovered.{GivesRecovery};
+ghost use Rattle.image_commands.specs.Lines.{recovered_below, recovered_line, redo_line, IsCheck, IsLog};
+ghost use Rattle.image_commands.specs.Recovered.{GivesRecovery, GivesReplayed};
 
 use disk_definitions::Disk;
-use disk_reading::lines_read;
 use disk_replay::{records_of, replay_in_place, replay_with_greatest};
 use frang_base::limits::LOGS;
 use frang_base::{NoMemory, OpNo, Redo, Said, ServerId};
@@ -25,35 +24,21 @@ fn stands<R: Threads + Sync>(rt: &R, alloc: Global, disk: &Disk) -> Result<bool,
     Ok(report.stands)
 }
 
-// Lines with those of the tree of a disk behind them, and the end.
-fn with_tree(alloc: Global, disk: &Disk, before: Vec<Said>) -> Result<Vec<Said>, NoMemory>
-    requires { StandsForSome (sectors_of disk.now) }
-    ensures { IfOk result (λ lines. EndsWithTree (sectors_of disk.now) before.items lines.items) }
-{
-    let mut told = lines_read(alloc, disk)?;
-    let mut lines = before;
-    lines.append(&mut told)?;
-    lines.push(Said::End)?;
-    Ok(lines)
-}
-
-/// The lines of the tree of a disk, once its logs are replayed, and the end. `None` exactly where it stands for no tree.
-pub fn tree_said<R: Threads + Sync>(
+/// A disk once its logs are replayed, where it stands for a tree. `None` exactly where it stands for none.
+pub fn sound_replay<R: Threads + Sync>(
     rt: &R,
     alloc: Global,
     disk: Disk,
-) -> Result<Option<Vec<Said>>, NoMemory>
+) -> Result<Option<Disk>, NoMemory>
     requires { is_some (param_in (sectors_of disk 0)) ≡ true }
-    ensures { IfOk result (GivesLines IsTree disk) }
+    ensures { IfOk result (GivesReplayed disk) }
 {
     let new = replay_in_place(alloc, disk)?;
     let sound = stands(rt, alloc, &new)?;
     if !sound {
         return Ok(None);
     }
-    let before = Vec::new(alloc);
-    let lines = with_tree(alloc, &new, before)?;
-    Ok(Some(lines))
+    Ok(Some(new))
 }
 
 // The lines of records, in order.
@@ -122,14 +107,14 @@ fn recovered_said(alloc: Global, greatest: &[Option<OpNo>]) -> Result<Vec<Said>,
     Ok(lines)
 }
 
-/// A disk once its logs are replayed, with the lines of its recovery.
+/// A disk once its logs are replayed, with the lines of a recovery before those of its tree.
 #[derive(Drop)]
 pub struct Recovery {
     pub disk: Disk,
-    pub lines: Vec<Said>,
+    pub before: Vec<Said>,
 }
 
-/// The replayed disk with the lines of the logs that hold a record, of its tree, and the end. `None` exactly where it stands for no tree.
+/// The replayed disk, where it stands for a tree, with the lines of the logs that hold a record. `None` exactly where it stands for no tree.
 pub fn recovery_of<R: Threads + Sync>(
     rt: &R,
     alloc: Global,
@@ -144,9 +129,8 @@ pub fn recovery_of<R: Threads + Sync>(
     if !sound {
         return Ok(None);
     }
-    let lines = with_tree(alloc, &replay.disk, before)?;
     Ok(Some(Recovery {
         disk: replay.disk,
-        lines,
+        before,
     }))
 }

@@ -5,8 +5,8 @@ use Rattle.frang_base.specs.declared.limits.TheConstants.{LOGS}
 use Rattle.disk_definitions.specs.Params.{param_in}
 use Rattle.sector_bytes.specs.Sectors.{sectors_of}
 use Rattle.disk_replay.specs.Laid.{AreGreatest}
-use Rattle.image_commands.specs.Lines.{recovered_below, EndsWithTree}
-use Rattle.image_commands.proofs.LineLaws.{has_param, none_told, tree_told}
+use Rattle.image_commands.specs.Lines.{recovered_below}
+use Rattle.image_commands.proofs.LineLaws.{has_param, none_told}
 use Rattle.image_commands.proofs.lines.recovery_of.Goals as goal
 
 pub stands-requires : goal.stands-requires
@@ -14,17 +14,12 @@ stands-requires g c =
     let h : is_some (param_in (sectors_of c.in_ok-replay.replay.disk 0)) ≡ true = has_param c.args.disk c.in_ok-replay.replay.disk (recovered_below (sectors_of c.args.disk) LOGS) c.in_ok-replay.ensures.disk c.requires in
     first_of (search (rules, h), assumption h, grind (arith, h))
 
-pub with_tree-requires : goal.with_tree-requires
-with_tree-requires g c = c.in_ok-sound.ensures.0 c.if-not-sound.false
-
 pub returns-then-not-sound : goal.returns-then-not-sound
 returns-then-not-sound g c =
     none_told c.args.disk c.in_ok-replay.replay.disk (recovered_below (sectors_of c.args.disk) LOGS) c.in_ok-replay.ensures.disk (λ yes. false≢true (sym c.if-not-sound.true ∙ c.in_ok-sound.ensures.1 yes))
 
 pub returns : goal.returns
-returns g c =
-    let before : c.in_ok-before.before.items ≡ recovered_below (sectors_of c.args.disk) LOGS = c.in_ok-before.ensures (sectors_of c.args.disk) (subst (AreGreatest LOGS (sectors_of c.args.disk)) (sym c.deref.ensures.value) c.in_ok-replay.ensures.greatest) in (
-      tree_told c.args.disk c.in_ok-replay.replay.disk (recovered_below (sectors_of c.args.disk) LOGS) c.in_ok-replay.ensures.disk c.in_ok-lines.lines.items
-          (subst (λ before. EndsWithTree (sectors_of c.in_ok-replay.replay.disk) before c.in_ok-lines.lines.items) before c.in_ok-lines.ensures),
-      c.in_ok-replay.ensures.disk,
-    )
+returns g c = (
+  (c.in_ok-replay.ensures.disk, c.in_ok-sound.ensures.0 c.if-not-sound.false),
+  c.in_ok-before.ensures (sectors_of c.args.disk) (subst (AreGreatest LOGS (sectors_of c.args.disk)) (sym c.deref.ensures.value) c.in_ok-replay.ensures.greatest),
+)

@@ -1,6 +1,5 @@
 -- A disk that stands for a tree is sound, and stands for the tree that is read off it.
-use Rattle.std.proofs.Common.{◌≡◌, ◌*◌, Some, None, IfOk, sym, ◌∙◌, ap, subst}
-use Rattle.std.proofs.lemmas.Result.{IfOk-weaker}
+use Rattle.std.proofs.Common.{◌≡◌, ◌*◌, Some, None, sym, ◌∙◌, ap, subst}
 use Rattle.tree_definitions.specs.TreeLines.{tree_lines}
 use Rattle.disk_definitions.specs.Params.{param_in}
 use Rattle.sector_bytes.specs.Sectors.{sectors_of}
@@ -10,7 +9,7 @@ use Rattle.disk_reading.specs.Seen.{store_in}
 use Rattle.disk_reading.proofs.NodeLines.{lines_told, nodes_agree, standing_sound}
 use Rattle.disk_definitions.proofs.ParamLaws.{few_segments}
 use Rattle.disk_reading.proofs.Treed.{reading_unknown}
-use Rattle.disk_reading.proofs.lines.lines_read.Goals as goal
+use Rattle.disk_reading.proofs.lines.DiskLines.of.Goals as goal
 
 pub unreachable-requires : goal.unreachable-requires
 unreachable-requires c =
@@ -41,4 +40,4 @@ returns c =
     let sectors = sectors_of c.args.disk.now in
     let p = c.in-Some.param in
     let e : param_in (sectors 0) ≡ Some p = ap param_in (sym c.get.ensures) ∙ sym c.decode.ensures ∙ c.in-Some.is in
-    IfOk-weaker c.lines_of.result _ _ (λ lines is. lines_told sectors p c.requires.0 lines.items e c.requires.1 (is ∙ ap (λ es. tree_lines (read_tree p.segments (sectors_of es))) c.in_ok-decoded.ensures)) c.lines_of.ensures
+    lines_told sectors p c.requires.0 c.lines_of.result e c.requires.1 (c.lines_of.ensures ∙ ap (λ es. tree_lines (read_tree p.segments (sectors_of es))) c.in_ok-decoded.ensures)
