@@ -159,18 +159,22 @@ fn a_write_arrives_until_its_stamp(rt: HostRuntime) {
 }
 
 // The first two puts fail where they are in time.
-static LOST: [Step; 13] = [
+static LOST: [Step; 17] = [
     Step::Issue(5, Ok(Ticket(0))),
     Step::Issue(6, Ok(Ticket(1))),
     Step::Issue(7, Ok(Ticket(2))),
+    Step::HasFlights(1, false),
     Step::Arrive(1, 21, Some(LATE)),
+    Step::HasFlights(0, true),
     Step::Count(2),
     Step::At(1, Some((Ticket(2), Sector(7)))),
     Step::First(Some((Ticket(0), Sector(5)))),
     Step::Get(2, Some(Sector(7))),
     Step::Get(1, None),
     Step::Arrive(2, 20, Some(Arrived::Failed)),
+    Step::HasFlights(0, true),
     Step::Lose(0),
+    Step::HasFlights(0, false),
     Step::Count(0),
     Step::At(0, None),
 ];
