@@ -1,0 +1,14 @@
+pub mod Maps
+pub mod SealWrites
+pub mod Wanted
+pub mod GoingOn
+pub mod NamedSectors
+pub mod Changing
+pub mod Meaning
+pub mod Seen
+pub mod UnreadSlots
+pub mod SameReading
+pub mod Parts
+pub mod Tied
+pub mod Beginning
+pub mod Stepping

@@ -1,0 +1,20 @@
+-- The first sector to look at is the first of those that are kept.
+use Rattle.std.proofs.Common.{sym, ap, ◌∙◌}
+use Rattle.std.specs.List.{slice_get}
+use Rattle.recovery_demon.specs.Recovering.{looks_wanted}
+use Rattle.recovery_demon.proofs.Seen.{no_looks, seen_looks}
+use Rattle.recovery_demon.proofs.Tied.{seen_as, tied_some, young}
+use Rattle.recovery_demon.proofs.demon.Demon.first_look.Goals as goal
+
+pub returns-in-Some : goal.returns-in-Some
+returns-in-Some c =
+    let i = c.self.inside in
+    let tied = tied_some i.dead.0 i.segments i.slots.entries i.replay c.in-Some.replay c.self.invariant c.in-Some.is in
+    let seen = seen_as i.dead.0 i.segments i.slots i.replay c.in-Some.replay c.args.self.now c.in-Some.is c.self.view_is in
+    c.first_look.ensures ∙ ap (λ keys. slice_get keys 0) (seen_looks i.dead.0 i.segments i.slots.entries c.in-Some.replay.replay tied) ∙ ap (λ d. slice_get (looks_wanted d.segments d.recovery) 0) seen
+
+pub returns-in-None : goal.returns-in-None
+returns-in-None c =
+    let i = c.self.inside in
+    let is = young i.dead.0 i.segments i.slots i.replay c.args.self.now c.in-None.is c.self.view_is c.requires in
+    sym (ap (λ sectors. slice_get sectors 0) (no_looks c.args.self.now.segments c.args.self.now.recovery is.unread))

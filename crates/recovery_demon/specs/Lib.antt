@@ -1,0 +1,7 @@
+pub mod Rules
+pub mod Unread
+pub mod Naming
+pub mod Replays
+pub mod Recovering
+pub mod Inside
+pub mod Fields
