@@ -21,23 +21,23 @@ use Rattle.lock_definitions.specs.Locks.{Locks}
 use Rattle.lock_definitions.specs.Order.{is_lock, lock_cmp}
 use Rattle.lock_definitions.proofs.LockOrder.{found_lock}
 use Rattle.disk_definitions.proofs.Listed.{Among}
-use Rattle.disk_definitions.specs.Ask.{Ask, Met}
+use Rattle.disk_definitions.specs.Ask.{Ask, Met, meet}
 use Rattle.disk_definitions.specs.Ask.Met.{Needs, Has}
 use Rattle.disk_definitions.specs.Edits.{Edit, SetInode, SetBit, SetUse, SetPlace, SetLarge, SetBytes, SetLargeBytes}
 use Rattle.disk_definitions.specs.FoundLocks.{clear_soles, cleared_locks, edit_locks, edit_locks_of, finish_locks, from_end, full_locks, made_segments, makes_node, nodes_behind, owns_at_hand, step_locks}
 use Rattle.disk_definitions.specs.Held.{Segments}
 use Rattle.disk_definitions.specs.Plans.{Lock, Plan, says_full, shared_nodes, sole_nodes, sole_segments}
 use Rattle.disk_definitions.specs.Plans.Plan.{Lacks, Clears, Finishes}
+use Rattle.disk_definitions.specs.Lines.{resolved}
 use Rattle.sector_bytes.specs.Sectors.{Sectors}
 use Rattle.tree_definitions.specs.Apply.{is_path_op}
 use Rattle.tree_definitions.specs.Perform.{Step, Goes, Stops, Resolved}
 use Rattle.cache_definitions.specs.Caches.{Cache}
-use Rattle.core_definitions.specs.Lines.{Stage, Asking, Fetching, Moving, Stopping, Growing, Clearing, Finishing, Under, missing_bitmaps, needed_mode, needing, once_through, operation_of, or_grown, set_at_first, sole_segment, stage_asked, stage_by, stage_held, stage_over}
-use Rattle.core_definitions.specs.Plans.{Sight, clear_needs, cover_of, examined_in, finish_needs, nodes_looked_at, outcome_of, planned, program_of, sight_of}
+use Rattle.core_definitions.specs.Lines.{Stage, Asking, Fetching, Moving, Stopping, Growing, Clearing, Finishing, Under, needed_mode, operation_of, set_at_first, sole_segment}
+use Rattle.core_definitions.specs.Plans.{Sight, known_in, clear_needs, cover_of, examined_in, finish_needs, nodes_looked_at, outcome_of, planned, program_of, sight_of}
 use Rattle.core_definitions.specs.Scripts.{host_party}
 use Rattle.core_definitions.specs.Servers.{Server, asks, is_up, stage_of, stage_under, stage_with, wanting_all, wanting_all_up}
-use Rattle.set_definitions.specs.Seen.{SeenSectors, Comparison, HasMoved, HasStopped, HasGoneThrough, compared, seen_more}
-use Rattle.set_definitions.specs.Sets.{LockSet, first_set, has_lock, joined, joined_all, lacks, mode_in, next_segment, to_ask, with_mode}
+use Rattle.set_definitions.specs.Sets.{LockSet, first_set, joined, joined_all, mode_in, with_mode}
 use Rattle.core_definitions.specs.Settings.{Setting}
 use Rattle.core_definitions.specs.LineEffects.{failed_by}
 use Rattle.core_definitions.specs.WriteEffects.{acknowledged, clean_now, fixed_for, under_at_death}
@@ -46,6 +46,7 @@ use Rattle.core_definitions.specs.EndEffects.{recovered}
 use Rattle.core_definitions.specs.Writes.{comes_clean}
 use Rattle.sector_bytes.specs.Blocks.{Block}
 use Rattle.core_definitions.specs.Runs.{State, Run, first_state}
+use Rattle.core_facts.proofs.StageForms.{IfStage, OfEachForm, at_stage}
 use Rattle.core_facts.proofs.Turns.{Work, work_of, failed_at, LineStep, Begun, Anew, Grown, SlotRead, Refused, Ended, Turn, Rests, Stays, Lines, Caches, Reclaims, Clears, Commits, Mounts, Leaves, Arms, Stalls, Settles, Asks, Lowers, Releases, Relocks, Wants, Issues, Fades, Lands, Drifts, Breaks, Fails, Dooms, Resumes, Dies, Renews, Ticks, Recovers, Loads, Looks, Finishes, Halts, step_turn}
 use Rattle.core_laws.proofs.Along.{along}
 use Rattle.core_laws.proofs.Membership.{contains_in}
@@ -131,80 +132,29 @@ GrowsAlone (Growing needs seen) = AreAlone needs
 GrowsAlone (Clearing block) = Unit {0}
 GrowsAlone (Finishing outcome) = Unit {0}
 
-once_alone : (comparison : Comparison) (at : Stage) → GrowsAlone at → GrowsAlone (once_through comparison at)
-once_alone HasGoneThrough at g = g
-once_alone HasStopped at g = tt
-once_alone HasMoved at g = tt
-
 needed_alone : (cover : LockId) → IsAlone cover (needed_mode cover)
 needed_alone (Log n) = tt
 needed_alone (Segment n) = refl
 needed_alone (Node n) = tt
 
-needing_alone : (comparison : Comparison) (set : LockSet) (seen : SeenSectors) (sector : ℕ) (cover : LockId) → GrowsAlone (needing comparison set seen sector cover)
-needing_alone comparison set seen sector cover = go (has_lock set cover)
-  where
-    go : (b : Bool) → GrowsAlone (if b then Fetching ((sector, cover) ∷ []) else once_through comparison (Growing ((cover, needed_mode cover) ∷ []) seen))
-    go true = tt
-    go false = once_alone comparison (Growing ((cover, needed_mode cover) ∷ []) seen) (needed_alone cover, tt)
-
 sole_alone : (next : Option ℕ) → AreAlone (sole_segment next)
 sole_alone None = tt
 sole_alone (Some segment) = (refl, tt)
 
-grown_alone : (set : LockSet) (needs : List Lock) (seen : SeenSectors) (at : Stage) → AreAlone needs → GrowsAlone at → GrowsAlone (or_grown set needs seen at)
-grown_alone set needs seen at alone g = go (list_any (lacks set) needs)
-  where
-    go : (b : Bool) → GrowsAlone (if b then Growing needs seen else at)
-    go true = alone
-    go false = g
-
-by_alone : (setting : Setting) (line : Line) (operation : Op) (sight : Sight) (set : LockSet) (next : Option ℕ) (comparison : Comparison) (seen : SeenSectors) (nodes : List ℕ) (met : Met Plan) →
-    GrowsAlone (stage_by setting line operation sight set next comparison seen nodes met)
-by_alone setting line operation sight set next comparison seen nodes (Needs sector) = needing_alone comparison set seen _ (cover_of nodes sight sector)
-by_alone setting line operation sight set next comparison seen nodes (Has Lacks) = once_alone comparison (Growing (sole_segment next) seen) (sole_alone next)
-by_alone setting line operation sight set next comparison seen nodes (Has (Clears block locks)) =
-    once_alone comparison _ (grown_alone set (clear_needs operation nodes sight block) seen (Clearing block) (cleared_alone nodes block _) tt)
-by_alone setting line operation sight set next comparison seen nodes (Has (Finishes finish)) =
-    once_alone comparison _
-    (grown_alone set (finish_needs nodes sight finish) seen (Finishing (outcome_of setting line nodes sight finish)) (finish_alone (owns_at_hand sight.cached) sight.held nodes finish.reply finish.edits) tt)
-
-over_alone : (setting : Setting) (under : Under) (operation : Op) (next : Option ℕ) (sight : Sight) (comparison : Comparison) (program : Ask Plan) →
-    GrowsAlone (stage_over setting under operation next sight comparison program)
-over_alone setting under operation next sight HasMoved program = tt
-over_alone setting under operation next sight HasStopped program = by_alone setting under.line operation sight under.set next HasStopped (seen_more sight.cached under.seen (examined_in program sight)) (nodes_looked_at program sight) (planned program sight)
-over_alone setting under operation next sight HasGoneThrough program = by_alone setting under.line operation sight under.set next HasGoneThrough (seen_more sight.cached under.seen (examined_in program sight)) (nodes_looked_at program sight) (planned program sight)
-
-held_alone : (setting : Setting) (locks : Locks) (server : ℕ) (cache : Cache) (under : Under) (operation : Op) (missing : List (ℕ × LockId)) →
-    GrowsAlone (stage_held setting locks server cache under operation missing)
-held_alone setting locks server cache under operation [] =
-    over_alone setting under operation (next_segment setting.segments locks server under.set) (sight_of setting.segments under.set cache) (compared under.seen (sight_of setting.segments under.set cache).cached)
-    (program_of setting under.line operation (sight_of setting.segments under.set cache))
-held_alone setting locks server cache under operation (missing ∷ others) = tt
-
-asked_alone : (setting : Setting) (locks : Locks) (server : ℕ) (cache : Cache) (under : Under) (operation : Op) (need : Option Lock) →
-    GrowsAlone (stage_asked setting locks server cache under operation need)
-asked_alone setting locks server cache under operation (Some need) = tt
-asked_alone setting locks server cache under operation None = held_alone setting locks server cache under operation (missing_bitmaps under.set cache)
-
-abbrev GrowsAloneIf : Option Stage → Type 0
-GrowsAloneIf None = Unit {0}
-GrowsAloneIf (Some at) = GrowsAlone at
-
-stage_alone : (setting : Setting) (locks : Locks) (number : ℕ) (server : Server) → GrowsAloneIf (stage_of setting locks number server)
-stage_alone setting locks number server = go (is_up server.phase && asks is_path_op server)
-  where
-    with_operation : (under : Under) (operation : Option Op) → GrowsAloneIf (stage_with setting locks number server.cache under operation)
-    with_operation under None = tt
-    with_operation under (Some operation) = asked_alone setting locks number server.cache under operation (to_ask locks number under.set)
-
-    of_line : (under : Option Under) → GrowsAloneIf (stage_under setting locks number server.cache under)
-    of_line None = tt
-    of_line (Some under) = with_operation under (operation_of under.line.what)
-
-    go : (b : Bool) → GrowsAloneIf (if b then stage_under setting locks number server.cache server.under else None)
-    go true = of_line server.under
-    go false = tt
+each_alone : OfEachForm (λ sight. Unit {0}) GrowsAlone
+each_alone = record {
+  asking = λ need. tt;
+  bitmaps = λ set cache. tt;
+  needed = λ sector cover. tt;
+  moving = tt;
+  stopping = tt;
+  found = λ cover seen. (needed_alone cover, tt);
+  next = λ segment seen. sole_alone segment;
+  to_clear = λ operation nodes sight block seen. cleared_alone nodes block (meet (resolved operation) (known_in sight));
+  to_finish = λ nodes sight finish seen. finish_alone (owns_at_hand sight.cached) sight.held nodes finish.reply finish.edits;
+  clearing = λ block. tt;
+  finishing = λ setting line nodes sight finish q. tt;
+}
 
 -- ---- sets
 
@@ -258,7 +208,7 @@ line_alone : (s : State) (a : ℕ) (under : Option Under) → LineStep s a under
 line_alone s a u (Begun line operation idle) m = first_alone operation
 line_alone s a u (Anew under e) m = (tt, tt)
 line_alone s a u (Grown under needs seen e f) m =
-    all_joined_alone under.set needs (subst GrowsAloneIf f (stage_alone s.core.setting s.core.locks a (s.core.servers a))) (subst UnderAlone e (m a))
+    all_joined_alone under.set needs (subst (IfStage GrowsAlone) f (at_stage (λ sight. Unit {0}) GrowsAlone each_alone s.core.setting s.core.locks a (s.core.servers a) (λ set. tt))) (subst UnderAlone e (m a))
 line_alone s a u (SlotRead under sector block e off unread got) m = subst UnderAlone e (m a)
 line_alone s a u (Refused under e) m = subst UnderAlone e (m a)
 line_alone s a u Ended m = tt

@@ -1,3 +1,6 @@
 pub mod Stamps
 pub mod Holds
+pub mod Rescues
+pub mod LogReads
 pub mod LockSets
+pub mod Marks
