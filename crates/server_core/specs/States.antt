@@ -1,9 +1,13 @@
 -- What contracts see of a line under way and of a server: those of the core, and for how much more there is room.
-use Rattle.std.specs.Prelude.{ℕ, Option, Some, None, []}
-use Rattle.sector_bytes.specs.SectorMaps.{Spacious}
+use Rattle.std.specs.Prelude.{◌≡◌, ◌≤◌, ℕ, Option, Some, None, []}
+use Rattle.std.specs.Option.{option_map}
 use Rattle.sector_bytes.specs.Blocks.{Block}
+use Rattle.sector_bytes.specs.SectorMaps.{Spacious}
+use Rattle.ring_definitions.specs.Rings.{Ring, ring_at}
+use Rattle.wal_ring.specs.SpaciousRings.{SpaciousRing}
 use Rattle.core_definitions.specs.Lines.{Under}
 use Rattle.core_definitions.specs.Logs.{SlotsRead}
+use Rattle.core_definitions.specs.Servers.{Server}
 
 -- ---- a line under way
 
@@ -20,3 +24,37 @@ slots_in (Some slots) = slots.entries
 abbrev pub spare_in : Option (Spacious Block) → ℕ
 spare_in None = 0
 spare_in (Some slots) = slots.spare
+
+-- ---- a server
+
+-- which one it is; the server of the core but for its recovery, which is kept beside it; for so many more sectors its cache has room, and for so many more sectors its log and names of
+-- sectors in it
+pub record State : Type 0 where
+  pub id : ℕ
+  pub server : Server
+  pub spare : ℕ
+  pub sectors : ℕ
+  pub names : ℕ
+
+-- before its first mount, and behind a recovery of its log, a server has no ring
+abbrev pub ring_in : Option SpaciousRing → Ring
+ring_in None = ring_at 0
+ring_in (Some ring) = ring.ring
+
+abbrev pub sectors_in : Option SpaciousRing → ℕ
+sectors_in None = 0
+sectors_in (Some ring) = ring.sectors
+
+abbrev pub names_in : Option SpaciousRing → ℕ
+names_in None = 0
+names_in (Some ring) = ring.names
+
+abbrev pub under_in : Option UnderState → Option Under
+under_in under = option_map (λ u. u.under) under
+
+-- it is the same server, and there is no less room than before
+pub record KeepsRoom (old new : State) : Type 0 where
+  pub id : new.id ≡ old.id
+  pub spare : old.spare ≤ new.spare
+  pub sectors : old.sectors ≤ new.sectors
+  pub names : old.names ≤ new.names
