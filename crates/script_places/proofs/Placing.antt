@@ -1,7 +1,7 @@
 -- What the kept places say: what is answered before a number, and where the next lines are once one more is answered.
-use Rattle.std.proofs.Common.{◌≡◌, ℕ, zero, suc, ◌+◌, ◌<◌, ◌≤◌, ◌==◌, Bool, true, false, not, ◌&&◌, if◌then◌else◌, List, [], ◌∷◌, drop, filter, length, set, get_or, Option, Some, None, nat_le, nat_lt, refl, sym, ap, ◌∙◌, subst, add-zero, zero-add, arith, inl, inr, ◌⊎◌}
+use Rattle.std.proofs.Common.{◌≡◌, ℕ, suc, ◌+◌, ◌<◌, ◌≤◌, ◌==◌, Bool, true, false, not, ◌&&◌, if◌then◌else◌, List, [], ◌∷◌, drop, filter, length, set, get_or, Option, Some, None, nat_le, nat_lt, refl, sym, ap, ◌∙◌, subst, add-zero, zero-add, arith, inl, inr, ◌⊎◌}
 use Rattle.std.specs.Prelude.{find, is_none, IsSomeAnd}
-use Rattle.std.specs.List.{AllByRecursion, list_all, position_or_len, prefix_len, slice_get}
+use Rattle.std.specs.List.{AllByRecursion, list_all, position_or_len}
 use Rattle.std.proofs.lemmas.Bool.{and_parts, cases_eq, false≢true}
 use Rattle.std.proofs.lemmas.Bool.Decides.{nat_tests}
 use Rattle.std.proofs.lemmas.List.{get_or-set_same, get_or-set_other, length-set}

@@ -1,5 +1,5 @@
 -- The party's next line is looked for behind the one that is answered, and the first open one from where it was.
-use Rattle.std.proofs.Common.{◌+◌, drop, get_or, length, sym, ap, ◌∙◌, arith}
+use Rattle.std.proofs.Common.{◌+◌, drop, get_or, length, ap, ◌∙◌, arith}
 use Rattle.std.specs.List.{position_or_len}
 use Rattle.core_definitions.specs.Scripts.{next_line}
 use Rattle.world_definitions.specs.Worlds.{marks_of}
