@@ -12,8 +12,6 @@ mod packed;
 #[cfg(test)]
 mod pieces;
 #[cfg(test)]
-mod recoveries;
-#[cfg(test)]
 mod replays;
 #[cfg(test)]
 mod rings;
