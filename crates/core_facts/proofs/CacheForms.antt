@@ -1,6 +1,6 @@
 -- What is so of each cached sector, through all that is done to a cache.
-use Rattle.std.proofs.Common.{◌≡◌, ℕ, inl, inr, Bool, true, false, not, cond, List, [], ◌∷◌, Option, Some, None, filter, fold, if◌then◌else◌, refl, sym, ap, subst}
-use Rattle.std.specs.BTreeMap.{insert_entry, is_at}
+use Rattle.std.proofs.Common.{◌≡◌, ℕ, inl, inr, Bool, true, false, not, cond, List, [], ◌∷◌, fold, if◌then◌else◌, refl, sym, ap, subst}
+use Rattle.std.specs.BTreeMap.{is_at}
 use Rattle.std.specs.List.{AllByRecursion}
 use Rattle.std.specs.Map.{remove_entry}
 use Rattle.std.specs.Ordering.{is_eq, match_ordering, nat_cmp}
@@ -8,7 +8,7 @@ use Rattle.std.specs.declared.cmp.Ordering.{Ordering}
 use Rattle.std.specs.declared.cmp.Ordering.TheVariants.{Less, Equal, Greater}
 use Rattle.frang_base.specs.declared.lock.LockId.{LockId}
 use Rattle.disk_definitions.proofs.Listed.{Among}
-use Rattle.sector_bytes.specs.SectorMaps.{adjusted, with_value, without}
+use Rattle.sector_bytes.specs.SectorMaps.{with_value, without}
 use Rattle.sector_bytes.proofs.MapLaws.{found}
 use Rattle.cache_definitions.specs.Caches.{Cache, CachedSector, cleaned, dropped, each_cached, forgotten, is_under, without_dirt}
 

@@ -11,3 +11,4 @@ mod Owing
 mod Rescuing
 mod Marking
 mod Reading
+mod Wholeness

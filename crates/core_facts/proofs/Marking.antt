@@ -1,5 +1,5 @@
 -- Over every run the mark of a dirty sector is no later than the last number of its server's log, which doesn't fall within a mount. Step by step.
-use Rattle.std.proofs.Common.{◌≡◌, ℕ, suc, set, take, ◌≤◌, ◌<◌, ◌+◌, ◌-◌, ◌/◌, ◌%◌, inl, inr, Bool, true, false, ◌&&◌, ◌||◌, ◌==◌, cond, if◌then◌else◌, IsTrue, List, [], ◌∷◌, ◌++◌, Option, Some, None, fold, length, drop, nat_lt, refl, sym, ap, ◌∙◌, subst, arith}
+use Rattle.std.proofs.Common.{◌≡◌, ℕ, suc, set, take, ◌≤◌, ◌+◌, ◌-◌, ◌/◌, ◌%◌, Bool, true, false, ◌==◌, cond, if◌then◌else◌, IsTrue, List, [], ◌∷◌, ◌++◌, Option, Some, None, fold, length, drop, nat_lt, refl, sym, ap, ◌∙◌, subst, arith}
 use Rattle.std.proofs.Math.Nat.{le_refl}
 use Rattle.std.proofs.lemmas.Bool.{or_right}
 use Rattle.std.proofs.lemmas.List.{length-append, length-set}
@@ -18,15 +18,14 @@ use Rattle.frang_base.proofs.Basics.{at_put}
 use Rattle.disk_definitions.specs.Frames.{frame_bytes}
 use Rattle.disk_definitions.specs.declared.log_sector.LogSector.{LogSector}
 use Rattle.disk_definitions.specs.LogSectors.{none_begins}
-use Rattle.ring_definitions.specs.Rings.{Ring, acked, appended, filled, framed, issued as ring_issued, last, packed_sectors, passed, put_on, ring_at, sent}
+use Rattle.ring_definitions.specs.Rings.{Ring, acked, filled, framed, issued as ring_issued, last, packed_sectors, passed, put_on, ring_at, sent}
 use Rattle.sector_bytes.specs.Blocks.{Block, zero_block}
-use Rattle.sector_bytes.specs.SectorMaps.{value_at, with_value}
+use Rattle.sector_bytes.specs.SectorMaps.{value_at}
 use Rattle.sector_bytes.specs.Sectors.{Sectors}
-use Rattle.sector_bytes.proofs.MapLaws.{found}
 use Rattle.cache_definitions.specs.declared.dirt.Dirt.{Dirt}
 use Rattle.cache_definitions.specs.Caches.{Cache, CachedSector, clean, dirty, each_cached}
 use Rattle.core_definitions.specs.Flights.{InPlace, OfLog, OfRecovery, Purpose}
-use Rattle.core_definitions.specs.Plans.{BytesSet, Outcome}
+use Rattle.core_definitions.specs.Plans.{Outcome}
 use Rattle.core_definitions.specs.Rings.{appended_some}
 use Rattle.core_definitions.specs.Scripts.{host_party}
 use Rattle.core_definitions.specs.Servers.{Server, is_dead, is_off, is_up, wanting_all, wanting_all_up}

@@ -1,11 +1,8 @@
 -- Over the logs of a disk: the writes that a recovery owes, which sectors these are of, in which order its seal is written, and that none is owed once it is over.
-use Rattle.std.proofs.Common.{◌≡◌, ◌≢◌, ℕ, ◌≤◌, ◌<◌, ◌+◌, ◌-◌, ◌*◌, ◌%◌, ◌⊎◌, inl, inr, ⊎_elim, Bool, true, false, not, ◌&&◌, ◌||◌, ◌==◌, if◌then◌else◌, cond, IsTrue, is_some, List, [], ◌∷◌, ◌++◌, Option, Some, None, filter, map, nat_eq, refl, sym, ap, ◌∙◌, subst, arith}
+use Rattle.std.proofs.Common.{◌≡◌, ◌≢◌, ℕ, ◌≤◌, ◌<◌, ◌+◌, ◌*◌, ◌%◌, ◌⊎◌, inl, inr, ⊎_elim, Bool, true, false, not, ◌&&◌, ◌||◌, if◌then◌else◌, cond, IsTrue, is_some, List, [], ◌∷◌, Option, Some, None, filter, map, nat_eq, refl, sym, ap, ◌∙◌, subst, arith}
 use Rattle.std.proofs.lemmas.Bool.{and_parts, both_ways, eqb-true, false≢true, not-false, not-true}
-use Rattle.std.proofs.lemmas.Bool.Decides.{nat_tests}
 use Rattle.std.proofs.lemmas.Option.{same_Some, none-some}
-use Rattle.std.specs.BTreeMap.{insert_entry, is_at}
 use Rattle.std.specs.List.{filter_map, flat_map, list_all}
-use Rattle.std.specs.Map.{lookup}
 use Rattle.std.specs.Option.{option_map}
 use Rattle.std.specs.Ordering.{is_eq, match_ordering, nat_cmp}
 use Rattle.std.specs.declared.cmp.Ordering.{Ordering}
@@ -13,7 +10,7 @@ use Rattle.std.specs.declared.cmp.Ordering.TheVariants.{Less, Equal, Greater}
 use Rattle.frang_base.specs.Functions.{member}
 use Rattle.disk_definitions.proofs.Listed.{Among, all_at, among_either, among_filter, among_filter_map, among_filter_mapped, among_filtered, among_mapped, below_among}
 use Rattle.disk_definitions.proofs.RegionLaws.{IsPlaceOf, region_read}
-use Rattle.disk_definitions.specs.Regions.{region_of, sector_of}
+use Rattle.disk_definitions.specs.Regions.{region_of}
 use Rattle.disk_definitions.specs.Replay.{is_replayed}
 use Rattle.disk_definitions.specs.Written.{ascending}
 use Rattle.disk_definitions.specs.declared.region.Region.{Region}
@@ -25,7 +22,7 @@ use Rattle.core_definitions.specs.Logs.{SlotsRead, end_of, is_none, is_read, is_
 use Rattle.core_definitions.specs.Recoveries.{Recovery, is_recovered, is_replay_done, is_seal_done, is_sealed_at, is_written, named_sectors, recovery_writes, redos, replay_writes, seal_writes, seals_from, seals_wanted, to_look}
 use Rattle.core_definitions.specs.Settings.{LogRules, disk_logs}
 use Rattle.core_laws.proofs.Guarding.{Of2, Of3, of_2, of_3}
-use Rattle.core_laws.proofs.Keys.{in_member, member_in}
+use Rattle.core_laws.proofs.Keys.{member_in}
 
 -- none passes: each fails
 none_among : {X : Type 0} (xs : List X) (x : X) → is_none xs ≡ true → Among x xs → ⊥

@@ -1,6 +1,6 @@
 -- Over every run over the logs of a disk: what was read of a log for a mount, or by a recovery at work, is the disk's, but for the recovery's own seal. Step by step, beside where cached
 -- sectors and writes in flight lie.
-use Rattle.std.proofs.Common.{◌≡◌, ◌≢◌, ℕ, ◌≤◌, ◌<◌, ◌+◌, ◌-◌, ◌*◌, ◌/◌, ◌%◌, ◌⊎◌, inl, inr, ⊎_elim, Bool, true, false, not, ◌&&◌, ◌||◌, ◌==◌, cond, if◌then◌else◌, is_some, IsTrue, List, [], ◌∷◌, ◌++◌, Option, Some, None, map, fold, filter, refl, sym, ap, ◌∙◌, subst, arith}
+use Rattle.std.proofs.Common.{◌≡◌, ℕ, ◌≤◌, ◌<◌, ◌+◌, ◌-◌, ◌*◌, ◌/◌, ◌%◌, ◌⊎◌, inl, inr, ⊎_elim, Bool, true, false, not, ◌&&◌, ◌||◌, ◌==◌, cond, if◌then◌else◌, is_some, IsTrue, List, [], ◌∷◌, Option, Some, None, map, fold, refl, sym, ap, ◌∙◌, subst, arith}
 use Rattle.std.proofs.Math.Nat.{le_refl}
 use Rattle.std.proofs.lemmas.Bool.{and_parts, both_ways, eqb-true, false≢true, ltb-true, or_left}
 use Rattle.std.proofs.lemmas.Bool.Decides.{nat_tests}
@@ -17,14 +17,12 @@ use Rattle.frang_base.specs.declared.lock.LockId.TheVariants.{Segment}
 use Rattle.frang_base.specs.declared.script.Line.{Line}
 use Rattle.frang_base.proofs.Basics.{at_put}
 use Rattle.frang_outside.specs.Disk.{written}
-use Rattle.disk_definitions.proofs.Listed.{Among, among_below, among_filter_mapped, among_filtered, among_mapped, below_among}
+use Rattle.disk_definitions.proofs.Listed.{Among, among_filtered, among_mapped, below_among}
 use Rattle.disk_definitions.specs.Ask.{Sector, InodeAt, DirectoryAt, SegmentAt, BytesAt, LargeAt, number_of}
 use Rattle.disk_definitions.specs.Edits.{Edit}
 use Rattle.disk_definitions.specs.Moves.{moved_by}
-use Rattle.disk_definitions.specs.Plans.{Finish, Lock}
 use Rattle.disk_definitions.specs.Written.{edited_block}
-use Rattle.disk_definitions.specs.Regions.{region_of, sector_of}
-use Rattle.disk_definitions.specs.Replay.{is_replayed}
+use Rattle.disk_definitions.specs.Regions.{sector_of}
 use Rattle.disk_definitions.specs.declared.region.Region.TheVariants as region
 use Rattle.lock_definitions.specs.declared.claim.LogHold.{LogHold}
 use Rattle.lock_definitions.specs.Locks.{log_hold}
@@ -35,26 +33,24 @@ use Rattle.sector_bytes.specs.Sectors.{Sectors}
 use Rattle.sector_bytes.proofs.MapLaws.{found}
 use Rattle.sorted_entries.proofs.Sorted.{lookup-insert_entry}
 use Rattle.tree_definitions.specs.Numbers.{below}
-use Rattle.cache_definitions.specs.declared.dirt.Dirt.{Dirt}
-use Rattle.cache_definitions.specs.Caches.{Cache, CachedSector, clean, dirty, each_cached, without_dirt}
-use Rattle.core_definitions.specs.Flights.{Flight, Flights, InPlace, OfLog, OfRecovery, Purpose, each_of_server, has_flights, left_behind, lost}
-use Rattle.core_definitions.specs.Lines.{Stage, Asking, Fetching, Moving, Stopping, Growing, Clearing, Finishing, Under, bitmap_sector, missing_bitmaps, needed_mode, operation_of, sole_segment}
-use Rattle.core_definitions.specs.Logs.{SlotsRead, end_of, is_read, is_slot_read, later_seals, log_sector, seal_block, unread}
-use Rattle.core_definitions.specs.Plans.{BytesSet, Outcome, Sight, cover_of, outcome_of, place_of, set_by}
-use Rattle.core_definitions.specs.Recoveries.{Recovery, recovery_of, recovery_writes}
+use Rattle.cache_definitions.specs.Caches.{Cache, clean, dirty, each_cached}
+use Rattle.core_definitions.specs.Flights.{Flight, Flights, InPlace, OfLog, OfRecovery, Purpose, each_of_server, left_behind, lost}
+use Rattle.core_definitions.specs.Lines.{Stage, Asking, Fetching, Moving, Stopping, Growing, Clearing, Finishing, Under, bitmap_sector, operation_of}
+use Rattle.core_definitions.specs.Logs.{SlotsRead, end_of, is_slot_read, later_seals, log_sector, unread}
+use Rattle.core_definitions.specs.Plans.{BytesSet, Outcome, Sight, cover_of, place_of, set_by}
+use Rattle.core_definitions.specs.Recoveries.{Recovery}
 use Rattle.core_definitions.specs.Scripts.{host_party}
-use Rattle.core_definitions.specs.Servers.{Doomed, Fate, Phase, Off, Up, Still, Dead, Server, is_dead, is_in_mount, is_off, is_still, is_up, wanting_all, wanting_all_up}
-use Rattle.set_definitions.specs.Sets.{LockSet, segments_in}
-use Rattle.core_definitions.specs.Settings.{LogRules, Setting, disk_logs, setting_of, slot_of}
+use Rattle.core_definitions.specs.Servers.{Doomed, Phase, Off, Up, Still, Dead, Server, is_dead, is_in_mount, is_off, is_still, is_up, wanting_all, wanting_all_up}
+use Rattle.core_definitions.specs.Settings.{Setting, disk_logs, setting_of}
 use Rattle.core_definitions.specs.Trees.{block_sectors}
 use Rattle.core_definitions.specs.Writes.{Write, comes_clean}
-use Rattle.core_definitions.specs.Cores.{Core, stage, writes}
+use Rattle.core_definitions.specs.Cores.{stage, writes}
 use Rattle.core_definitions.specs.LineGuards.{is_server, slots_under}
-use Rattle.core_definitions.specs.WriteGuards.{CanIssue, is_worker}
+use Rattle.core_definitions.specs.WriteGuards.{is_worker}
 use Rattle.core_definitions.specs.Events.{PutFailed}
 use Rattle.core_definitions.specs.Effects.{disk_with}
-use Rattle.core_definitions.specs.LineEffects.{cache_after, cleared_at, changed_by, committed_by, failed_by, flight_after, off_after, purpose_after, ring_after, sector_after, up_after, with_bytes, zeroed}
-use Rattle.core_definitions.specs.WriteEffects.{acknowledged, acknowledged_for, clean_now, died_with, fixed_for, flight_of, flights_at_death, under_at_death, up_again}
+use Rattle.core_definitions.specs.LineEffects.{cache_after, failed_by, flight_after, purpose_after, ring_after, sector_after, with_bytes, zeroed}
+use Rattle.core_definitions.specs.WriteEffects.{acknowledged, acknowledged_for, clean_now, fixed_for, flight_of, under_at_death}
 use Rattle.core_definitions.specs.EndEffects.{recovered}
 use Rattle.core_definitions.specs.Runs.{State, Run, first_state}
 use Rattle.core_facts.proofs.CacheForms.{EachEntry, all_cleaned, all_dropped, all_each, all_forgotten, all_put, entry_at, with_entry}
@@ -75,7 +71,7 @@ use Rattle.core_laws.proofs.Kept.{setting_of_run}
 use Rattle.core_laws.proofs.Memory.{Safe, dead_of, up_dead_not}
 use Rattle.core_laws.proofs.Resting.{good_of_run, server_no_host}
 use Rattle.core_laws.proofs.Windows.{slots_kept}
-use Rattle.core_laws.proofs.FlightLists.{AllFlights, all_changed, all_flights, all_joined, all_landed, all_lost, in_flights}
+use Rattle.core_laws.proofs.FlightLists.{AllFlights, all_changed, all_joined, all_landed, all_lost, in_flights}
 use Rattle.core_laws.proofs.Keys.{member_in}
 use Rattle.core_laws.proofs.Membership.{in_contains}
 

@@ -1,7 +1,6 @@
 -- Over every run over the logs of a disk: a write of a recovery is owed by it and isn't acknowledged for it, and one in time is by the holder of its log. Step by step.
-use Rattle.std.proofs.Common.{◌≡◌, ◌≢◌, ℕ, ◌≤◌, ◌<◌, ◌+◌, ◌⊎◌, inl, inr, ⊎_elim, Bool, true, false, ◌&&◌, ◌||◌, ◌==◌, ◌%◌, cond, if◌then◌else◌, IsTrue, List, [], ◌∷◌, ◌++◌, Option, Some, None, nat_lt, refl, sym, ap, ◌∙◌, subst, arith}
-use Rattle.std.proofs.Math.Nat.{le_refl}
-use Rattle.std.proofs.lemmas.Bool.{and_from, and_parts, both_ways, cases_eq, eq-eqb, false≢true, ltb-true, or_left, or_parts, or_right}
+use Rattle.std.proofs.Common.{◌≡◌, ◌≢◌, ℕ, ◌≤◌, ◌<◌, ◌+◌, ◌⊎◌, inl, inr, ⊎_elim, Bool, true, false, ◌&&◌, ◌||◌, ◌==◌, ◌%◌, cond, if◌then◌else◌, IsTrue, List, [], ◌∷◌, Option, Some, None, refl, sym, ap, ◌∙◌, subst, arith}
+use Rattle.std.proofs.lemmas.Bool.{and_from, and_parts, both_ways, eq-eqb, false≢true, ltb-true, or_left, or_parts}
 use Rattle.std.proofs.lemmas.Bool.Decides.{nat_tests}
 use Rattle.std.proofs.lemmas.Option.{same_Some, none-some}
 use Rattle.std.specs.BTreeMap.{is_at}
@@ -14,43 +13,40 @@ use Rattle.frang_base.specs.declared.script.Line.{Line}
 use Rattle.frang_base.proofs.Basics.{at_put}
 use Rattle.disk_definitions.proofs.Listed.{Among}
 use Rattle.lock_definitions.specs.declared.claim.LogHold.{LogHold}
-use Rattle.lock_definitions.specs.Calls.{cleared, extended, taken}
+use Rattle.lock_definitions.specs.Calls.{cleared, taken}
 use Rattle.lock_definitions.specs.Lease.{IsInTime}
 use Rattle.lock_definitions.specs.Locks.{Locks, log_hold}
 use Rattle.sector_bytes.specs.Blocks.{Block}
 use Rattle.sector_bytes.specs.SectorMaps.{value_at, without}
 use Rattle.sector_bytes.specs.Sectors.{Sectors}
 use Rattle.core_definitions.specs.Flights.{Flight, Flights, InPlace, OfLog, OfRecovery, Purpose, each_of_server, has_flights, is_of_mount, left_behind, lost}
-use Rattle.core_definitions.specs.Logs.{log_sector, unread}
 use Rattle.core_definitions.specs.Plans.{Outcome}
-use Rattle.core_definitions.specs.Recoveries.{Recovery, is_recovered, is_written, recovery_of, to_look}
+use Rattle.core_definitions.specs.Recoveries.{Recovery, is_recovered, recovery_of}
 use Rattle.core_definitions.specs.Scripts.{host_party}
-use Rattle.core_definitions.specs.Servers.{Doomed, Fate, Server, is_clean, is_dead, is_off, is_still, is_up, wanting_all, wanting_all_up}
-use Rattle.core_definitions.specs.Settings.{LogRules, Setting, disk_logs, lease_to, setting_of}
+use Rattle.core_definitions.specs.Servers.{Server, is_dead, is_off, is_still, is_up, wanting_all, wanting_all_up}
+use Rattle.core_definitions.specs.Settings.{LogRules, disk_logs, lease_to, setting_of}
 use Rattle.core_definitions.specs.Writes.{Write, comes_clean}
-use Rattle.core_definitions.specs.Cores.{Core, expiry_of, stage, writes}
+use Rattle.core_definitions.specs.Cores.{expiry_of, stage, writes}
 use Rattle.core_definitions.specs.LineGuards.{is_server}
 use Rattle.core_definitions.specs.LineEffects.{failed_by, flight_after, off_after, purpose_after, up_after}
-use Rattle.core_definitions.specs.WriteEffects.{acknowledged, acknowledged_for, clean_now, died_with, flight_of, flights_at_death, up_again}
-use Rattle.core_definitions.specs.WriteGuards.{CanIssue, is_worker}
+use Rattle.core_definitions.specs.WriteEffects.{acknowledged, acknowledged_for, clean_now, died_with, flight_of, up_again}
+use Rattle.core_definitions.specs.WriteGuards.{is_worker}
 use Rattle.core_definitions.specs.EndGuards.{CanFinish, CanRecover, is_hold_over, is_recovery, is_through}
 use Rattle.core_definitions.specs.EndEffects.{recovered}
 use Rattle.core_definitions.specs.Runs.{State, Run, first_state}
-use Rattle.core_facts.proofs.LogHolds.{hold_after_clear, hold_after_extension, hold_elsewhere, hold_taken, takes_extended, takes_kept}
+use Rattle.core_facts.proofs.LogHolds.{hold_after_clear, hold_after_extension, hold_elsewhere, takes_extended, takes_kept}
 use Rattle.core_facts.proofs.Owing.{InTurn, IsOpen, Owed, none_open, none_open_unread, open_beside, open_looked, turn_loaded, turn_looked, turn_written, wanted_open, with_written}
-use Rattle.core_facts.proofs.Phases.{none_recovers, off_dead_not, recover_waits, taker_works, up_mounted}
+use Rattle.core_facts.proofs.Phases.{none_recovers, recover_waits, taker_works}
 use Rattle.core_facts.proofs.Staling.{all_mapped, recovered_over, stale_late, within_leases}
 use Rattle.core_facts.proofs.Taking.{Holding, HoldOf, holding_of_run}
 use Rattle.core_facts.proofs.Turns.{Work, work_of, failed_at, Turn, Rests, Stays, Lines, Caches, Reclaims, Clears, Commits, Mounts, Leaves, Arms, Stalls, Settles, Asks, Lowers, Releases, Relocks, Wants, Issues, Fades, Lands, Drifts, Breaks, Fails, Dooms, Resumes, Dies, Renews, Ticks, Recovers, Loads, Looks, Finishes, Halts, step_turn}
-use Rattle.core_facts.proofs.WriteKinds.{Wanted, Rescues, Places, NextOfLog, cached_write, next_log_write, rescue_write, wanted_is}
+use Rattle.core_facts.proofs.WriteKinds.{Wanted, Rescues, Places, NextOfLog, wanted_is}
 use Rattle.core_facts.specs.Rescues.{IsByHolder, IsUnwritten, RecoversLog}
 use Rattle.core_laws.specs.Leases.{LeasesEnd}
 use Rattle.core_laws.proofs.Along.{along}
 use Rattle.core_laws.proofs.Ashore.{ashore_of_run, clean_lands, none_left_behind, none_lost}
 use Rattle.core_laws.proofs.FlightLists.{AllFlights, all_changed, all_flights, all_joined, all_landed, all_lost, in_flights}
 use Rattle.core_laws.proofs.Flying.{Once, once_of, sectors_in}
-use Rattle.core_laws.proofs.Guarding.{Of4}
-use Rattle.core_laws.proofs.Keeping.{locks_of_run}
 use Rattle.core_laws.proofs.Kept.{setting_of_run}
 use Rattle.core_laws.proofs.Membership.{contains_in, in_contains, into_map}
 use Rattle.core_laws.proofs.Memory.{Safe, dead_of, still_dead_not, up_dead_not, works}
@@ -93,11 +89,10 @@ apart_landed (x ∷ xs) ticket flight e once = go (is_at (nat_cmp ticket) x.0) e
 
 pub none_of_mount : (flights : Flights) (a : ℕ) → has_flights flights a ≡ false → AllFlights (λ f. f.server ≡ a → f.present ≡ true → ⊥) flights
 none_of_mount [] a h = tt
-none_of_mount (one ∷ others) a h =
-    (
-      (λ server present. both_ways (is_of_mount a one.1) (or_parts (is_of_mount a one.1) (has_flights others a) h).0 (and_from (one.1.server == a) one.1.present (eq-eqb one.1.server a server) present)),
-      none_of_mount others a (or_parts (is_of_mount a one.1) (has_flights others a) h).1,
-    )
+none_of_mount (one ∷ others) a h = (
+  (λ server present. both_ways (is_of_mount a one.1) (or_parts (is_of_mount a one.1) (has_flights others a) h).0 (and_from (one.1.server == a) one.1.present (eq-eqb one.1.server a server) present)),
+  none_of_mount others a (or_parts (is_of_mount a one.1) (has_flights others a) h).1,
+)
 
 -- ---- what is kept
 
@@ -178,10 +173,12 @@ module _ (s : State) (m : Rescuing s.core.setting.logs s.core.setting.segments s
   one_put a new flights turn old each = record {
     turns = λ i. at_put (λ x. TurnOf logs segments x.recovery) s.core.servers a new i (λ e. turn) (λ n. m.turns i);
     ours = all_flights (Ours logs segments (put s.core.servers a new)) flights
-        (λ one i. ((in_flights (Ours logs segments s.core.servers) flights one i old).0,
-        (λ p q. at_put (λ x. RescueOf logs segments one.1 x.recovery) s.core.servers a new one.1.server
-        (λ e. each one i e p q (subst (λ n. RescueOf logs segments one.1 (s.core.servers n).recovery) e ((in_flights (Ours logs segments s.core.servers) flights one i old).1 p q)))
-        (λ n. (in_flights (Ours logs segments s.core.servers) flights one i old).1 p q))));
+        (λ one i. (
+          (in_flights (Ours logs segments s.core.servers) flights one i old).0,
+          (λ p q. at_put (λ x. RescueOf logs segments one.1 x.recovery) s.core.servers a new one.1.server
+              (λ e. each one i e p q (subst (λ n. RescueOf logs segments one.1 (s.core.servers n).recovery) e ((in_flights (Ours logs segments s.core.servers) flights one i old).1 p q)))
+              (λ n. (in_flights (Ours logs segments s.core.servers) flights one i old).1 p q)),
+        ));
   }
 
   -- but not what it recovers
@@ -214,9 +211,10 @@ issued_open s a sector write e = ((λ p. absurd (false≢true (sym p))), (λ p q
     go : write.purpose ≡ OfRecovery → Wanted s.core.setting.logs s.core.setting.segments a (s.core.servers a) sector write →
         RescueOf s.core.setting.logs s.core.setting.segments (flight_of s.core a sector write) (s.core.servers a).recovery
     go q (Rescues recovery block has i is) =
-        subst (RescueOf s.core.setting.logs s.core.setting.segments (flight_of s.core a sector write)) (sym has)
-        (ap (λ w. w.behalf) (sym is),
-        subst (IsOpen s.core.setting.logs s.core.setting.segments recovery sector) (ap (λ w. w.block) (sym is)) (wanted_open s.core.setting.logs s.core.setting.segments recovery sector block i))
+        subst (RescueOf s.core.setting.logs s.core.setting.segments (flight_of s.core a sector write)) (sym has) (
+          ap (λ w. w.behalf) (sym is),
+          subst (IsOpen s.core.setting.logs s.core.setting.segments recovery sector) (ap (λ w. w.block) (sym is)) (wanted_open s.core.setting.logs s.core.setting.segments recovery sector block i),
+        )
     go q (Places cached dirt i d is) = absurd (false≢true (ap (λ w. is_rescue w.purpose) (sym is) ∙ ap is_rescue q))
     go q (NextOfLog number block n at is) = absurd (false≢true (ap (λ w. is_rescue w.purpose) (sym is) ∙ ap is_rescue q))
 
@@ -244,12 +242,11 @@ module _ (s : State) (ticket : ℕ) (flight : Flight) (e : value_at s.core.fligh
 
       beside : (one : ℕ × Flight) → Among one (without s.core.flights ticket) → RescueOf s.core.setting.logs s.core.setting.segments one.1 (Some r) →
           RescueOf s.core.setting.logs s.core.setting.segments one.1 (Some (with_written r flight.sector))
-      beside one i h =
-          (
-            h.0,
-            open_beside s.core.setting.logs s.core.setting.segments r flight.sector one.1.sector one.1.block
+      beside one i h = (
+        h.0,
+        open_beside s.core.setting.logs s.core.setting.segments r flight.sector one.1.sector one.1.block
             (in_flights (λ f. flight.sector ≢ f.sector) (without s.core.flights ticket) one i (apart_landed s.core.flights ticket flight e k.once)) h.1,
-          )
+      )
 
   lands_then : (purpose : Purpose) → flight.purpose ≡ purpose → then_at (acknowledged flight.sector flight.block purpose (s.core.servers flight.server))
   lands_then (OfLog number) is = same_then _ refl

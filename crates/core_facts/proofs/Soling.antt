@@ -1,7 +1,7 @@
 -- Over every run the lock of a segment is in a set only sole: by what a line grows by, and step by step.
-use Rattle.std.proofs.Common.{◌≡◌, ℕ, inl, inr, Bool, true, false, ◌&&◌, ◌==◌, ◌+◌, ◌%◌, ◌/◌, if◌then◌else◌, is_some, List, [], ◌∷◌, ◌++◌, Option, Some, None, refl, sym, ap, subst}
+use Rattle.std.proofs.Common.{◌≡◌, ℕ, inl, inr, Bool, true, false, ◌==◌, ◌+◌, ◌%◌, ◌/◌, if◌then◌else◌, is_some, List, [], ◌∷◌, ◌++◌, Option, Some, None, refl, sym, ap, subst}
 use Rattle.std.specs.BTreeMap.{insert_entry}
-use Rattle.std.specs.List.{Contains, list_any}
+use Rattle.std.specs.List.{Contains}
 use Rattle.std.specs.Map.{keys_of}
 use Rattle.std.specs.Option.{option_map}
 use Rattle.std.specs.Ordering.{is_eq, match_ordering}
@@ -15,28 +15,25 @@ use Rattle.frang_base.specs.declared.lock.Mode.{Mode}
 use Rattle.frang_base.specs.declared.lock.Mode.TheVariants.{Shared, Sole}
 use Rattle.frang_base.specs.declared.op.Op.{Op}
 use Rattle.frang_base.specs.declared.reply.Reply.{Reply}
-use Rattle.frang_base.specs.declared.script.Line.{Line}
 use Rattle.frang_base.proofs.Basics.{at_put}
-use Rattle.lock_definitions.specs.Locks.{Locks}
 use Rattle.lock_definitions.specs.Order.{is_lock, lock_cmp}
 use Rattle.lock_definitions.proofs.LockOrder.{found_lock}
 use Rattle.disk_definitions.proofs.Listed.{Among}
-use Rattle.disk_definitions.specs.Ask.{Ask, Met, meet}
+use Rattle.disk_definitions.specs.Ask.{Met, meet}
 use Rattle.disk_definitions.specs.Ask.Met.{Needs, Has}
 use Rattle.disk_definitions.specs.Edits.{Edit, SetInode, SetBit, SetUse, SetPlace, SetLarge, SetBytes, SetLargeBytes}
 use Rattle.disk_definitions.specs.FoundLocks.{clear_soles, cleared_locks, edit_locks, edit_locks_of, finish_locks, from_end, full_locks, made_segments, makes_node, nodes_behind, owns_at_hand, step_locks}
 use Rattle.disk_definitions.specs.Held.{Segments}
-use Rattle.disk_definitions.specs.Plans.{Lock, Plan, says_full, shared_nodes, sole_nodes, sole_segments}
-use Rattle.disk_definitions.specs.Plans.Plan.{Lacks, Clears, Finishes}
+use Rattle.disk_definitions.specs.Plans.{Lock, says_full, shared_nodes, sole_nodes, sole_segments}
+use Rattle.disk_definitions.specs.Plans.Plan.{Clears, Finishes}
 use Rattle.disk_definitions.specs.Lines.{resolved}
 use Rattle.sector_bytes.specs.Sectors.{Sectors}
 use Rattle.tree_definitions.specs.Apply.{is_path_op}
 use Rattle.tree_definitions.specs.Perform.{Step, Goes, Stops, Resolved}
-use Rattle.cache_definitions.specs.Caches.{Cache}
 use Rattle.core_definitions.specs.Lines.{Stage, Asking, Fetching, Moving, Stopping, Growing, Clearing, Finishing, Under, needed_mode, operation_of, set_at_first, sole_segment}
-use Rattle.core_definitions.specs.Plans.{Sight, known_in, clear_needs, cover_of, examined_in, finish_needs, nodes_looked_at, outcome_of, planned, program_of, sight_of}
+use Rattle.core_definitions.specs.Plans.{known_in}
 use Rattle.core_definitions.specs.Scripts.{host_party}
-use Rattle.core_definitions.specs.Servers.{Server, asks, is_up, stage_of, stage_under, stage_with, wanting_all, wanting_all_up}
+use Rattle.core_definitions.specs.Servers.{Server, is_up, wanting_all, wanting_all_up}
 use Rattle.set_definitions.specs.Sets.{LockSet, first_set, joined, joined_all, mode_in, with_mode}
 use Rattle.core_definitions.specs.Settings.{Setting}
 use Rattle.core_definitions.specs.LineEffects.{failed_by}

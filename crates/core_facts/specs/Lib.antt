@@ -4,3 +4,4 @@ pub mod Rescues
 pub mod LogReads
 pub mod LockSets
 pub mod Marks
+pub mod Blocks

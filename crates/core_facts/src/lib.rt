@@ -6,10 +6,12 @@
 //! - **Log reads**: what is read of logs.
 //! - **Lock sets**: the sets of lines under way.
 //! - **Marks**: the marks of dirty sectors.
+//! - **Blocks**: the length of blocks.
 //!
 //! They stand on the definitions of the core and on its laws, and go by what each step makes of the clock, the servers, the locks, the writes in flight and the disk.
 #![tactic(auto)]
 
+mod blocks;
 mod holds;
 mod lock_sets;
 mod log_reads;
@@ -17,6 +19,7 @@ mod marks;
 mod rescues;
 mod stamps;
 
+pub use blocks::blocks_stay_whole;
 pub use holds::who_holds_a_log_recovers_it;
 pub use lock_sets::segments_are_needed_sole;
 pub use log_reads::slots_read_are_the_disks;
