@@ -105,7 +105,7 @@ stage_by setting line operation sight set next comparison seen nodes (Has (Finis
 abbrev pub stage_over : Setting → Under → Op → Option ℕ → Sight → Comparison → Ask Plan → Stage
 stage_over setting under operation next sight HasMoved program = Moving
 stage_over setting under operation next sight comparison program =
-    stage_by setting under.line operation sight under.set next comparison (seen_more sight.cached under.seen (examined_in program sight)) (nodes_looked_at program sight)
+    stage_by setting under.line operation sight under.set next comparison (seen_more sight.cached under.seen (examined_in program sight)) (nodes_looked_at setting.segments program sight)
     (planned program sight)
 
 abbrev pub stage_in_sight : Setting → Under → Op → Option ℕ → Sight → Stage

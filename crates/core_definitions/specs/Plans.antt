@@ -23,7 +23,7 @@ use Rattle.disk_definitions.specs.Edits.Edit.{SetBytes, SetLargeBytes}
 use Rattle.disk_definitions.specs.Ask.{Ask, AtHand, Met, Sector, BytesAt, LargeAt, meet, number_of}
 use Rattle.disk_definitions.specs.Plans.{Finish, Lock, Plan}
 use Rattle.disk_definitions.specs.Written.{Cached, at_hand, changes_of, edited_block, freed_sectors, hand_of, sectors_at_hand}
-use Rattle.disk_definitions.specs.LookedAt.{examined, looked_nodes}
+use Rattle.disk_definitions.specs.LookedAt.{examined, nodes_in}
 use Rattle.disk_definitions.specs.CoversAtHand.{cover_among}
 use Rattle.disk_definitions.specs.FoundLocks.{cleared_locks, finish_locks, owns_at_hand}
 use Rattle.disk_definitions.specs.Moves.{moved_by}
@@ -69,13 +69,13 @@ program_of setting line operation sight =
 abbrev pub planned : Ask Plan → Sight → Met Plan
 planned program sight = meet program (known_in sight)
 
--- the nodes at whose inodes it looks
-abbrev pub nodes_looked_at : Ask Plan → Sight → List ℕ
-nodes_looked_at program sight = looked_nodes program (known_in sight)
-
 -- the sectors with a version that it examines, in order
 abbrev pub examined_in : Ask Plan → Sight → List ℕ
 examined_in program sight = examined program sight.cached sight.held
+
+-- the nodes at whose inodes it looks, as the numbers of these sectors tell them on a disk of so many segments
+abbrev pub nodes_looked_at : ℕ → Ask Plan → Sight → List ℕ
+nodes_looked_at segments program sight = nodes_in segments (examined_in program sight)
 
 -- ---- the locks that it finds, by the nodes at whose inodes it looked
 

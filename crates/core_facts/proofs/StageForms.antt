@@ -72,9 +72,9 @@ module _ (Q : Sight → Type 0) (P : Stage → Type 0) (each : OfEachForm Q P) w
       P (stage_over setting under operation next sight comparison program)
   over setting under operation next sight q HasMoved program = each.moving
   over setting under operation next sight q HasStopped program =
-      by_plan setting under.line operation sight q under.set next HasStopped (seen_more sight.cached under.seen (examined_in program sight)) (nodes_looked_at program sight) (planned program sight)
+      by_plan setting under.line operation sight q under.set next HasStopped (seen_more sight.cached under.seen (examined_in program sight)) (nodes_looked_at setting.segments program sight) (planned program sight)
   over setting under operation next sight q HasGoneThrough program =
-      by_plan setting under.line operation sight q under.set next HasGoneThrough (seen_more sight.cached under.seen (examined_in program sight)) (nodes_looked_at program sight) (planned program sight)
+      by_plan setting under.line operation sight q under.set next HasGoneThrough (seen_more sight.cached under.seen (examined_in program sight)) (nodes_looked_at setting.segments program sight) (planned program sight)
 
   held : (setting : Setting) (locks : Locks) (server : ℕ) (cache : Cache) → ((set : LockSet) → Q (sight_of setting.segments set cache)) → (under : Under) (operation : Op)
       (missing : List (ℕ × LockId)) → missing_bitmaps under.set cache ≡ missing →

@@ -93,9 +93,9 @@ over_past : (setting : Setting) (under : Under) (operation : Op) (next : Option 
     IsPast (stage_over setting under operation next sight comparison program)
 over_past setting under operation next sight HasMoved program = tt
 over_past setting under operation next sight HasStopped program =
-    by_past setting under.line operation sight under.set next HasStopped (seen_more sight.cached under.seen (examined_in program sight)) (nodes_looked_at program sight) (planned program sight)
+    by_past setting under.line operation sight under.set next HasStopped (seen_more sight.cached under.seen (examined_in program sight)) (nodes_looked_at setting.segments program sight) (planned program sight)
 over_past setting under operation next sight HasGoneThrough program =
-    by_past setting under.line operation sight under.set next HasGoneThrough (seen_more sight.cached under.seen (examined_in program sight)) (nodes_looked_at program sight) (planned program sight)
+    by_past setting under.line operation sight under.set next HasGoneThrough (seen_more sight.cached under.seen (examined_in program sight)) (nodes_looked_at setting.segments program sight) (planned program sight)
 
 held_past : (setting : Setting) (locks : Locks) (server : ℕ) (cache : Cache) (under : Under) (operation : Op) (missing : List (ℕ × LockId)) →
     IsPast (stage_held setting locks server cache under operation missing)

@@ -155,9 +155,9 @@ over_order : (setting : Setting) (under : Under) (operation : Op) (next : Option
     IsStageInOrder (stage_over setting under operation next sight comparison program)
 over_order setting under operation next sight HasMoved program o = tt
 over_order setting under operation next sight HasStopped program o =
-    by_order setting under.line operation sight under.set next HasStopped _ (nodes_looked_at program sight) (planned program sight) (seen_more_once sight.cached (examined_in program sight) under.seen o)
+    by_order setting under.line operation sight under.set next HasStopped _ (nodes_looked_at setting.segments program sight) (planned program sight) (seen_more_once sight.cached (examined_in program sight) under.seen o)
 over_order setting under operation next sight HasGoneThrough program o =
-    by_order setting under.line operation sight under.set next HasGoneThrough _ (nodes_looked_at program sight) (planned program sight) (seen_more_once sight.cached (examined_in program sight) under.seen o)
+    by_order setting under.line operation sight under.set next HasGoneThrough _ (nodes_looked_at setting.segments program sight) (planned program sight) (seen_more_once sight.cached (examined_in program sight) under.seen o)
 
 held_order : (setting : Setting) (locks : Locks) (server : ℕ) (cache : Cache) (under : Under) (operation : Op) (missing : List (ℕ × LockId)) →
     IsStrictlySortedBy nat_cmp (keys_of missing) →

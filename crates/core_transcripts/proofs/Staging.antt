@@ -65,11 +65,11 @@ module _ (setting : Setting) (P : Stage → Type 0) (Q : Plan → Type 0) (askin
       over next sight HasMoved = moving
       over next sight HasStopped =
           let program = program_of setting u.line o sight in
-          by_plan u.line o sight u.set next HasStopped (seen_more sight.cached u.seen (examined_in program sight)) (nodes_looked_at program sight) (planned program sight)
+          by_plan u.line o sight u.set next HasStopped (seen_more sight.cached u.seen (examined_in program sight)) (nodes_looked_at setting.segments program sight) (planned program sight)
           (λ plan e. always_met Q program (known_in sight) plan (always sight) e)
       over next sight HasGoneThrough =
           let program = program_of setting u.line o sight in
-          by_plan u.line o sight u.set next HasGoneThrough (seen_more sight.cached u.seen (examined_in program sight)) (nodes_looked_at program sight) (planned program sight)
+          by_plan u.line o sight u.set next HasGoneThrough (seen_more sight.cached u.seen (examined_in program sight)) (nodes_looked_at setting.segments program sight) (planned program sight)
           (λ plan e. always_met Q program (known_in sight) plan (always sight) e)
 
       held : (missing : List (ℕ × LockId)) → P (stage_held setting locks server cache u o missing)
