@@ -1,16 +1,15 @@
 -- What is kept beside a block, made another, is what the definitions say.
-use Rattle.std.proofs.Common.{◌≡◌, ℕ, true, false, if◌then◌else◌, Option, Some, None, IsSome, subst, refl, sym, ap, ◌∙◌}
+use Rattle.std.proofs.Common.{◌≡◌, ℕ, true, false, if◌then◌else◌, Option, Some, None, refl, sym, ap, ◌∙◌}
 use Rattle.std.specs.Option.{option_and_then, option_map, option_map_or, unwrap_or}
 use Rattle.frang_base.specs.declared.lock.LockId.{LockId}
 use Rattle.frang_base.specs.declared.change.Change.{Change}
 use Rattle.sector_bytes.specs.Blocks.{Block}
 use Rattle.std.specs.Str.{bytes_eq}
 use Rattle.sector_bytes.specs.Changes.{changed}
-use Rattle.sector_bytes.specs.SectorMaps.{value_at, adjusted}
-use Rattle.sector_bytes.proofs.MapLaws.{adjusted_same, adjusted-adjusted, value_at-adjusted}
-use Rattle.cache_definitions.specs.Caches.{Cache, CachedSector, block_at, cleaned, dirty, is_dirty_bytes, still_has, with_change, with_cover, with_written}
-use Rattle.meta_version.specs.Updates.{IsOlder, with_change as block_change}
-use Rattle.clerk_cache.specs.declared.state.SectorState.{SectorState}
+use Rattle.sector_bytes.specs.SectorMaps.{adjusted}
+use Rattle.sector_bytes.proofs.MapLaws.{adjusted-adjusted}
+use Rattle.cache_definitions.specs.Caches.{Cache, CachedSector, cleaned, dirty, is_dirty_bytes, still_has, with_change, with_written}
+use Rattle.meta_version.specs.Updates.{with_change as block_change}
 use Rattle.clerk_cache.specs.Kept.{joined, AreAlike}
 use Rattle.cache_definitions.specs.declared.dirt.Dirt.{Dirt}
 use Rattle.clerk_cache.proofs.Joining.{Blocks, States, joined-blocks}

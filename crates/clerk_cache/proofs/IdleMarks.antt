@@ -1,23 +1,19 @@
 -- The marks of the states that pass are those of the cached sectors that pass and aren't among the flying ones.
-use Rattle.std.proofs.Common.{◌≡◌, ℕ, Bool, true, false, not, ◌&&◌, if◌then◌else◌, [], ◌∷◌, Option, Some, None, refl, sym, ap, ◌∙◌, subst}
+use Rattle.std.proofs.Common.{◌≡◌, ℕ, Bool, false, not, ◌&&◌, if◌then◌else◌, [], ◌∷◌, Some, None, refl, sym, ap, ◌∙◌}
 use Rattle.std.specs.List.{AllByRecursion, filter_map, cons_option}
 use Rattle.std.specs.List.Sorted.{IsStrictlySortedBy}
-use Rattle.std.specs.BTreeMap.{is_at}
 use Rattle.std.specs.Option.{option_map, unwrap_or}
-use Rattle.std.specs.Ordering.{nat_cmp, is_eq, ordering_reverse}
+use Rattle.std.specs.Ordering.{is_eq, ordering_reverse}
 use Rattle.std.specs.Cmp.{nat_cmp_total}
-use Rattle.std.specs.declared.cmp.Ordering.TheVariants.{Less}
 use Rattle.frang_base.specs.Functions.{member}
 use Rattle.frang_base.proofs.Tests.{at_itself}
 use Rattle.sector_bytes.specs.Blocks.{Block}
 use Rattle.sector_bytes.specs.SectorMaps.{value_at, Ascend}
 use Rattle.sector_bytes.proofs.MapLaws.{AllAbove}
-use Rattle.cache_definitions.specs.declared.dirt.Dirt.{Dirt}
 use Rattle.cache_definitions.specs.Caches.{CachedSector}
-use Rattle.flush_order.specs.declared.Mark.{Mark}
 use Rattle.clerk_cache.specs.declared.state.SectorState.{SectorState}
-use Rattle.clerk_cache.specs.Kept.{AreAlike, cached_of, flagged, is_state_flying, is_state_staying, joined, mark_key, passing_marks, state_mark}
-use Rattle.clerk_cache.specs.Marks.{idle_mark_of, mark_of}
+use Rattle.clerk_cache.specs.Kept.{AreAlike, cached_of, flagged, is_state_flying, joined, mark_key, passing_marks, state_mark}
+use Rattle.clerk_cache.specs.Marks.{idle_mark_of}
 use Rattle.clerk_cache.proofs.Joining.{Blocks, States}
 use Rattle.clerk_cache.proofs.Flagging.{member_flagged}
 

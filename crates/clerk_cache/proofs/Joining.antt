@@ -1,6 +1,5 @@
 -- Two maps of the same sectors, seen as one: what an edit of both, or of one of them, makes of it.
-use Rattle.std.proofs.Common.{◌≡◌, ℕ, Bool, true, false, if◌then◌else◌, List, [], ◌∷◌, Option, Some, None, IsSome, refl, sym, ap, ◌∙◌, subst}
-use Rattle.std.proofs.lemmas.Bool.{false≢true}
+use Rattle.std.proofs.Common.{◌≡◌, ℕ, Bool, true, false, if◌then◌else◌, List, [], ◌∷◌, Some, refl, sym, ap, ◌∙◌, subst}
 use Rattle.std.specs.List.Sorted.{IsStrictlySortedBy}
 use Rattle.std.specs.Map.{keys_of}
 use Rattle.std.specs.BTreeMap.{is_at}
@@ -10,7 +9,7 @@ use Rattle.std.specs.declared.cmp.Ordering.{Ordering}
 use Rattle.std.specs.declared.cmp.Ordering.TheVariants.{Less, Equal, Greater}
 use Rattle.sector_bytes.specs.Blocks.{Block}
 use Rattle.sector_bytes.specs.SectorMaps.{value_at, with_value, without, adjusted, Ascend}
-use Rattle.sector_bytes.proofs.MapLaws.{with_value_there, ascend_with, ascend_without, ascend_adjusted}
+use Rattle.sector_bytes.proofs.MapLaws.{ascend_with, ascend_without, ascend_adjusted}
 use Rattle.clerk_cache.specs.declared.state.SectorState.{SectorState}
 use Rattle.cache_definitions.specs.Caches.{CachedSector, block_at, blocks_of}
 use Rattle.clerk_cache.specs.Kept.{cached_of, joined, AreAlike, AreKept}

@@ -15,5 +15,6 @@ pub mod IdleMarks
 pub mod Flown
 pub mod WantedAll
 pub mod OrderRooms
+pub mod Counting
 pub mod DropLaws
 pub mod CacheExamples

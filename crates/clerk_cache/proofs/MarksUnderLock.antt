@@ -1,5 +1,5 @@
 -- The first mark under a lock, in order of covers and marks, is the least of those under it.
-use Rattle.std.proofs.Common.{◌≡◌, ℕ, Bool, true, false, ◌&&◌, if◌then◌else◌, find, List, [], ◌∷◌, Option, Some, None, refl, sym, ap, ◌∙◌, arith}
+use Rattle.std.proofs.Common.{◌≡◌, Bool, true, false, ◌&&◌, if◌then◌else◌, find, List, [], ◌∷◌, Option, Some, None, refl, sym, ap, ◌∙◌, arith}
 use Rattle.std.proofs.lemmas.Bool.Decides.{nat_tests}
 use Rattle.std.proofs.lemmas.Cmp.{tied_itself}
 use Rattle.std.specs.List.{AllByRecursion, cons_option}
@@ -18,8 +18,7 @@ use Rattle.flush_order.specs.Marks.{mark_cmp, least, lesser}
 use Rattle.ordered_map.specs.Entries.{first_from}
 use Rattle.sector_bytes.proofs.MapLaws.{by_answer}
 use Rattle.clerk_cache.specs.declared.covered_mark.CoveredMark.{CoveredMark}
-use Rattle.clerk_cache.specs.declared.state.SectorState.{SectorState}
-use Rattle.clerk_cache.specs.Kept.{is_idle, is_idle_under, mark_key, passing_marks, state_mark}
+use Rattle.clerk_cache.specs.Kept.{is_idle, is_idle_under, passing_marks, state_mark}
 use Rattle.clerk_cache.specs.Keys.{with_key, keyed}
 use Rattle.clerk_cache.specs.CoveredMarks.{covered_mark, covered_mark_cmp, covered_mark_key, first_mark_of, mark_under}
 use Rattle.clerk_cache.proofs.CoveredMarkOrder.{covered_marks}

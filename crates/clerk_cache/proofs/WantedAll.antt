@@ -1,9 +1,8 @@
 -- All that is dirty stays wanted, one sector after another.
-use Rattle.std.proofs.Common.{◌≡◌, ℕ, ◌+◌, Bool, true, false, not, ◌&&◌, if◌then◌else◌, is_some, List, [], ◌∷◌, length, map, filter, Option, Some, None, refl, sym, ap, ◌∙◌, subst, arith}
-use Rattle.std.specs.List.{cons_option, filter_map}
+use Rattle.std.proofs.Common.{◌≡◌, ℕ, ◌+◌, Bool, true, false, not, if◌then◌else◌, is_some, [], ◌∷◌, length, Option, Some, None, refl, sym, ap, ◌∙◌, subst, arith}
+use Rattle.std.specs.List.{cons_option}
 use Rattle.std.specs.List.Sorted.{IsStrictlySortedBy}
 use Rattle.std.specs.BTreeMap.{is_at}
-use Rattle.std.specs.Map.{keys_of}
 use Rattle.std.specs.Option.{option_map, unwrap_or}
 use Rattle.std.specs.Ordering.{nat_cmp, match_ordering}
 use Rattle.std.specs.declared.cmp.Ordering.{Ordering}
@@ -12,7 +11,7 @@ use Rattle.frang_base.proofs.Tests.{at_itself}
 use Rattle.sector_bytes.specs.SectorMaps.{value_at, adjusted, Ascend}
 use Rattle.sector_bytes.proofs.MapLaws.{AllAbove, absent, found}
 use Rattle.cache_definitions.specs.declared.dirt.Dirt.{Dirt}
-use Rattle.cache_definitions.specs.Caches.{dirty_sectors, is_dirty}
+use Rattle.cache_definitions.specs.Caches.{dirty_sectors}
 use Rattle.flush_order.specs.declared.Mark.{Mark}
 use Rattle.flush_order.specs.Marks.{least, lesser, mark_cmp}
 use Rattle.clerk_cache.specs.declared.state.SectorState.{SectorState}

@@ -7,7 +7,7 @@ use Rattle.ordered_map.specs.Entries.{Ordered}
 use Rattle.clerk_cache.specs.declared.covered.Covered.{Covered}
 use Rattle.clerk_cache.specs.declared.covered_mark.CoveredMark.{CoveredMark}
 use Rattle.clerk_cache.specs.declared.state.SectorState.{SectorState}
-use Rattle.clerk_cache.specs.Kept.{is_idle, is_idle_bytes, is_idle_staying, is_state_dirty, is_state_fresh, mark_key, state_mark}
+use Rattle.clerk_cache.specs.Kept.{count_of, is_idle, is_idle_bytes, is_idle_staying, is_state_bytes, is_state_dirty, is_state_fresh, mark_key, state_mark}
 use Rattle.clerk_cache.specs.Keys.{keyed}
 use Rattle.clerk_cache.specs.Covers.{cover_cmp, cover_key, is_any}
 use Rattle.clerk_cache.specs.CoveredMarks.{covered_mark_cmp, covered_mark_key}
@@ -32,8 +32,8 @@ most_of_all states marks idle bytes staying fresh covers dirty waiting =
 abbrev pub states_of : Ordered ℕ SectorState → ℕ → Spacious SectorState
 states_of states most = record { entries = states.entries; spare = most - length states.entries }
 
--- the keys are those of the states, and each sector has room for one
-pub record AreIndexed (states : List (ℕ × SectorState)) (most : ℕ) (by_mark idle_ones bytes_ones staying_ones fresh_ones : List (Mark × Unit {0})) (by_cover dirty_ones : List (Covered × Unit {0}))
+-- the keys are those of the states, each sector has room for one, and those of dirty file bytes are counted
+pub record AreIndexed (states : List (ℕ × SectorState)) (most bytes_count : ℕ) (by_mark idle_ones bytes_ones staying_ones fresh_ones : List (Mark × Unit {0})) (by_cover dirty_ones : List (Covered × Unit {0}))
     (waiting_ones : List (CoveredMark × Unit {0})) : Type 0 where
   pub ascend : Ascend states
   pub room : length states ≤ most
@@ -45,3 +45,4 @@ pub record AreIndexed (states : List (ℕ × SectorState)) (most : ℕ) (by_mark
   pub covers : by_cover ≡ keyed cover_cmp (cover_key is_any) states
   pub dirty : dirty_ones ≡ keyed cover_cmp (cover_key is_state_dirty) states
   pub waiting : waiting_ones ≡ keyed covered_mark_cmp (covered_mark_key is_idle) states
+  pub counted : bytes_count ≡ count_of is_state_bytes states

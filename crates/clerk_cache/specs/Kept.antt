@@ -1,5 +1,5 @@
 -- How a cache keeps its contents: the blocks and the rest in two maps of the same sectors.
-use Rattle.std.specs.Prelude.{◌≡◌, ℕ, min, Bool, true, false, not, ◌&&◌, if◌then◌else◌, is_some, List, [], ◌∷◌, filter, find, map, Option, Some, None}
+use Rattle.std.specs.Prelude.{◌≡◌, ℕ, min, Bool, true, false, not, ◌&&◌, if◌then◌else◌, is_some, List, [], ◌∷◌, filter, find, map, Option, Some, None, ◌+◌}
 use Rattle.std.specs.List.{filter_map}
 use Rattle.std.specs.Map.{keys_of}
 use Rattle.std.specs.Option.{option_map, unwrap_or}
@@ -83,6 +83,16 @@ is_idle_staying state = is_idle state && is_state_staying state
 -- the same, and it is under the lock
 abbrev pub is_idle_under : LockId → SectorState → Bool
 is_idle_under lock state = is_idle state && is_state_under lock state
+
+-- how many states pass
+abbrev pub count_of : (SectorState → Bool) → List (ℕ × SectorState) → ℕ
+count_of test [] = 0
+count_of test (entry ∷ states) = (if test entry.1 then 1 else 0) + count_of test states
+
+-- one where there is a state that passes, else none
+abbrev pub one_if : (SectorState → Bool) → Option SectorState → ℕ
+one_if test None = 0
+one_if test (Some state) = if test state then 1 else 0
 
 -- ---- what is made of a state
 

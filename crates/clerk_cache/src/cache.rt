@@ -9,7 +9,7 @@ ghost use Rattle.sector_bytes.specs.Changes.{is_change};
 ghost use Rattle.sector_bytes.specs.SectorMaps.{Ascend, value_at, with_value, without, adjusted, room_for};
 ghost use Rattle.meta_version.specs.Updates.{IsOlder};
 ghost use Rattle.flush_order.specs.Marks.{next_reached, sector_reached};
-ghost use Rattle.cache_definitions.specs.Caches.{any_cached, block_at, blocks_of, clean, cleaned, cover_at, dirty, dirty_sectors, dropped, first_cached, forgotten, is_dirty, is_dirty_at, is_dirty_bytes_at, is_dirty_under, is_under, mark_at, still_has, with_change, with_cover, with_written};
+ghost use Rattle.cache_definitions.specs.Caches.{any_cached, block_at, blocks_of, clean, cleaned, cover_at, dirty, dirty_sectors, dropped, first_cached, forgotten, is_dirty, is_dirty_at, is_dirty_bytes, is_dirty_bytes_at, is_dirty_under, is_under, mark_at, still_has, with_change, with_cover, with_written};
 ghost use Rattle.cache_definitions.specs.Flags.{among_cached, but, but_all, with_cached};
 ghost use Rattle.frang_base.specs.Functions.{member};
 ghost use Rattle.ordered_map.specs.Chunks.{joined};
@@ -465,6 +465,13 @@ impl Cache {
         ensures { result ≡ not (any_cached is_dirty self.now.entries) }
     {
         self.states.first_mark().is_none()
+    }
+
+    /// Some sector is dirty and one of file bytes, whether a write of it is in flight or not. It takes constant time.
+    pub fn has_dirty_bytes(&self) -> bool
+        ensures { result ≡ any_cached is_dirty_bytes self.now.entries }
+    {
+        self.states.has_bytes()
     }
 
     /// Puts a cached sector under another lock. Its block and its dirt stay. It takes no memory.

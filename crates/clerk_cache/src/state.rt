@@ -1,6 +1,6 @@
 // What is kept of a cached sector beside its block.
-ghost use Rattle.std.specs.Prelude.{◌≡◌, ◌&&◌, Some, is_some, true, if◌then◌else◌};
-ghost use Rattle.clerk_cache.specs.Kept.{changed_state, clean_state, flown_state, is_idle, is_idle_bytes, is_idle_staying, is_state_bytes, is_state_dirty, is_state_fresh, is_state_staying, mark_key, moved_state, state_mark, wanted_state};
+ghost use Rattle.std.specs.Prelude.{◌≡◌, ◌+◌, ◌≤◌, ◌&&◌, Some, is_some, true, if◌then◌else◌};
+ghost use Rattle.clerk_cache.specs.Kept.{changed_state, clean_state, flown_state, is_idle, is_idle_bytes, is_idle_staying, is_state_bytes, is_state_dirty, is_state_fresh, is_state_staying, mark_key, moved_state, one_if, state_mark, wanted_state};
 ghost use Rattle.clerk_cache.specs.Keys.{key_at};
 ghost use Rattle.clerk_cache.specs.Covers.{cover_key, is_any};
 ghost use Rattle.clerk_cache.specs.CoveredMarks.{covered_mark_key};
@@ -107,6 +107,25 @@ fn is_bytes(state: SectorState) -> bool
         Some(dirt) => dirt.is_bytes,
         None => false,
     }
+}
+
+// One where there is a sector and it is one of dirty file bytes, else none.
+fn bytes_in(state: Option<SectorState>) -> usize
+    ensures { result ≡ one_if is_state_bytes state }
+{
+    match state {
+        Some(state) if is_bytes(state) => 1,
+        _ => 0,
+    }
+}
+
+/// How many sectors of dirty file bytes there are, where one state has taken the place of another.
+pub(crate) fn recount(count: usize, old: Option<SectorState>, new: Option<SectorState>) -> usize
+    requires old { one_if is_state_bytes old ≤ count }
+    requires fits { count + one_if is_state_bytes new ≤ one_if is_state_bytes old + usize.MAX }
+    ensures { result + one_if is_state_bytes old ≡ count + one_if is_state_bytes new }
+{
+    count - bytes_in(old) + bytes_in(new)
 }
 
 /// Where a sector lies in each of the orders in which it is kept.

@@ -1,14 +1,14 @@
 // What is kept beside the blocks, and the sectors in orders of their marks and covers.
-ghost use Rattle.std.specs.Prelude.{◌≡◌, ◌+◌, ◌<◌, ◌≤◌, [], length, IsOk, OnOk};
+ghost use Rattle.std.specs.Prelude.{◌≡◌, ◌+◌, ◌<◌, ◌≤◌, [], is_some, length, IsOk, OnOk};
 ghost use Rattle.sector_bytes.specs.SectorMaps.{value_at, with_value, without, adjusted, room_for, Ascend};
 ghost use Rattle.flush_order.specs.Marks.{least, first_mark};
 ghost use Rattle.ordered_map.specs.Chunks.{joined};
-ghost use Rattle.clerk_cache.specs.Kept.{all_wanted, first_state, is_idle, is_idle_bytes, is_idle_staying, is_idle_under, is_state_dirty_under, is_state_fresh, is_state_under, passing_marks, state_marks};
+ghost use Rattle.clerk_cache.specs.Kept.{all_wanted, first_state, is_idle, is_idle_bytes, is_idle_staying, is_idle_under, is_state_bytes, is_state_dirty_under, is_state_fresh, is_state_under, passing_marks, state_marks};
 
 use crate::covered::{Covered, first_of};
 use crate::covered_mark::{CoveredMark, first_mark_of};
 use crate::keys::{exchange, reserve, take_out};
-use crate::state::{SectorState, Wanted, keys_of};
+use crate::state::{SectorState, Wanted, keys_of, recount};
 use flush_order::Mark;
 use frang_base::{LockId, NoMemory, Sector};
 use ordered_map::{Chunk, Edit, OrderedMap, Place};
@@ -37,6 +37,8 @@ pub(crate) struct States {
     dirty: OrderedMap<Covered, ()>,
     // The dirty sectors without a write in flight with their covers and marks.
     waiting: OrderedMap<CoveredMark, ()>,
+    // How many are of dirty file bytes.
+    bytes_count: usize,
 }
 
 impl Model for States {
@@ -49,7 +51,7 @@ impl Model for States {
 
     ghost view = { λ s. states_of s.states (most_of_all s.states s.marks s.idle s.bytes s.staying s.fresh s.covers s.dirty s.waiting) };
 
-    ghost invariant = { λ s. AreIndexed s.states.entries (most_of_all s.states s.marks s.idle s.bytes s.staying s.fresh s.covers s.dirty s.waiting) s.marks.entries s.idle.entries s.bytes.entries s.staying.entries s.fresh.entries s.covers.entries s.dirty.entries s.waiting.entries };
+    ghost invariant = { λ s. AreIndexed s.states.entries (most_of_all s.states s.marks s.idle s.bytes s.staying s.fresh s.covers s.dirty s.waiting) s.bytes_count s.marks.entries s.idle.entries s.bytes.entries s.staying.entries s.fresh.entries s.covers.entries s.dirty.entries s.waiting.entries };
 }
 
 // The first of the marks.
@@ -77,6 +79,7 @@ impl States {
             covers: OrderedMap::new(alloc),
             dirty: OrderedMap::new(alloc),
             waiting: OrderedMap::new(alloc),
+            bytes_count: 0,
         }
     }
 
@@ -138,6 +141,13 @@ impl States {
         first_mark(&self.fresh)
     }
 
+    /// Some sector is one of dirty file bytes.
+    pub(crate) fn has_bytes(&self) -> bool
+        ensures { result ≡ is_some (first_state is_state_bytes self.now.entries) }
+    {
+        self.bytes_count > 0
+    }
+
     /// The first sector under a lock. It is looked for first from where the last one lay that was removed.
     pub(crate) fn first_under(&self, lock: LockId) -> Option<u64>
         ensures { result ≡ first_state (is_state_under lock) self.now.entries }
@@ -183,7 +193,11 @@ impl States {
         ensures entries { self.new.entries ≡ with_value self.old.entries sector.0 state }
         ensures spare { self.new.spare + room_for self.old.entries sector.0 ≡ self.old.spare }
     {
-        let old = keys_of(sector, self.states.replace_near(near, sector.0, state));
+        let before = self.states.replace_near(near, sector.0, state);
+        // Those that are counted are among these.
+        let _held = self.states.count();
+        self.bytes_count = recount(self.bytes_count, before, Some(state));
+        let old = keys_of(sector, before);
         let new = keys_of(sector, Some(state));
         exchange(&mut self.marks, old.mark, new.mark);
         exchange(&mut self.idle, old.idle, new.idle);
@@ -232,7 +246,11 @@ impl States {
         ensures entries { self.new.entries ≡ without self.old.entries sector.0 }
         ensures spare { self.old.spare ≤ self.new.spare }
     {
-        let old = keys_of(sector, self.states.take_near(near, &sector.0));
+        let before = self.states.take_near(near, &sector.0);
+        // Those that are counted are among these.
+        let _held = self.states.count();
+        self.bytes_count = recount(self.bytes_count, before, None);
+        let old = keys_of(sector, before);
         let last = self.covers.last_place();
         take_out(&mut self.marks, None, old.mark);
         take_out(&mut self.idle, None, old.idle);

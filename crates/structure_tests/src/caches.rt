@@ -43,6 +43,8 @@ enum Step {
     HasMark(u64, Option<u64>),
     // The sector is dirty, and one of file bytes.
     IsBytes(u64, bool),
+    // Some dirty sector is one of file bytes.
+    HasDirtyBytes(bool),
     // Bytes that the disk doesn't have, with a mark, under the node.
     SetBytes(u64, Small, u64),
     // Zeros in place of metadata, the same way.
@@ -170,6 +172,7 @@ fn is_answered(cache: &mut Cache, alloc: Global, step: Step) -> Result<bool, NoM
         Step::IsAllClean(is_so) => cache.is_all_clean() == is_so,
         Step::HasMark(sector, mark) => cache.mark(Sector(sector)) == mark,
         Step::IsBytes(sector, is_so) => cache.is_bytes(Sector(sector)) == is_so,
+        Step::HasDirtyBytes(is_so) => cache.has_dirty_bytes() == is_so,
         Step::SetBytes(sector, small, mark) => set_bytes(cache, sector, small, mark)?,
         Step::SetZeros(sector, mark) => set_zeros(cache, sector, mark)?,
         Step::Change(sector, small, mark, is_made) => {
@@ -306,6 +309,33 @@ static OF_BOTH_KINDS: [Step; 20] = [
 #[test]
 fn a_dirty_sector_is_one_of_bytes_or_not(rt: HostRuntime) -> Result<(), Fail> {
     expect(&rt, rt.alloc(), &OF_BOTH_KINDS)
+}
+
+// Dirty metadata is none of them; a write in flight changes nothing, nor does another lock; each counts once, until it is clean or
+// forgotten.
+static COUNTED: [Step; 17] = [
+    Step::HasDirtyBytes(false),
+    Step::SetZeros(5, 257),
+    Step::HasDirtyBytes(false),
+    Step::SetBytes(4, (0, 41), 258),
+    Step::SetBytes(4, (0, 42), 259),
+    Step::HasDirtyBytes(true),
+    Step::SetFlies(4, true),
+    Step::HasDirtyBytes(true),
+    Step::Move(4, SEGMENT),
+    Step::SetBytes(6, (0, 61), 260),
+    Step::Clean(4, (0, 42)),
+    Step::HasDirtyBytes(true),
+    Step::Forget(6),
+    Step::HasDirtyBytes(false),
+    Step::IsAllClean(false),
+    Step::SetBytes(4, (0, 43), 261),
+    Step::HasDirtyBytes(true),
+];
+
+#[test]
+fn dirty_bytes_are_counted(rt: HostRuntime) -> Result<(), Fail> {
+    expect(&rt, rt.alloc(), &COUNTED)
 }
 
 // What is dirty when all is wanted stays so through a change, until it is clean or forgotten; what gets dirty afterwards doesn't.

@@ -1,5 +1,5 @@
 -- The block is changed first, and then the rest.
-use Rattle.std.proofs.Common.{false, refl, ap, sym, ◌∙◌, subst, arith}
+use Rattle.std.proofs.Common.{false, refl, ap, sym, ◌∙◌, subst}
 use Rattle.sector_bytes.specs.Changes.{changed}
 use Rattle.cache_definitions.specs.Caches.{block_at, dirty, with_change}
 use Rattle.meta_version.specs.Updates.{IsOlder}

@@ -1,5 +1,5 @@
 -- Both maps lose the sector, and with it its flags.
-use Rattle.std.proofs.Common.{◌≡◌, false, sym, ap, ◌∙◌}
+use Rattle.std.proofs.Common.{ap, ◌∙◌}
 use Rattle.sector_bytes.specs.SectorMaps.{without}
 use Rattle.cache_definitions.specs.Caches.{is_dirty_at}
 use Rattle.cache_definitions.specs.Flags.{but}

@@ -1,9 +1,8 @@
 -- The dirt alone is taken from a sector that is there.
-use Rattle.std.proofs.Common.{◌≡◌, Bool, true, false, ◌&&◌, is_some, if◌then◌else◌, Option, Some, None, refl, sym, ap, ◌∙◌, subst, arith}
-use Rattle.sector_bytes.specs.SectorMaps.{adjusted}
+use Rattle.std.proofs.Common.{refl, sym, ap, ◌∙◌, subst, arith}
 use Rattle.cache_definitions.specs.Caches.{cleaned, without_dirt}
 use Rattle.cache_definitions.specs.Flags.{but}
-use Rattle.clerk_cache.specs.Kept.{AreAlike, changed_state, clean_state, flagged, flown_state, is_state_flying, is_state_staying, joined, moved_state, wanted_state}
+use Rattle.clerk_cache.specs.Kept.{AreAlike, clean_state, flagged, is_state_flying, is_state_staying, joined}
 use Rattle.clerk_cache.proofs.Flagging.{flagged-off, flagged-same}
 use Rattle.clerk_cache.proofs.Joining.{alike-states, joined-states, states_ascend}
 use Rattle.clerk_cache.proofs.cache.Cache.mark_clean.Goals as goal

@@ -1,10 +1,9 @@
 -- The cover alone is another.
-use Rattle.std.proofs.Common.{◌≡◌, Bool, true, false, ◌&&◌, is_some, if◌then◌else◌, Option, Some, None, refl, sym, ap, ◌∙◌, subst, arith}
-use Rattle.sector_bytes.specs.SectorMaps.{adjusted}
+use Rattle.std.proofs.Common.{refl, sym, ap, ◌∙◌, subst, arith}
 use Rattle.cache_definitions.specs.Caches.{with_cover}
-use Rattle.clerk_cache.specs.Kept.{AreAlike, changed_state, clean_state, flagged, flown_state, is_state_flying, is_state_staying, joined, moved_state, wanted_state}
-use Rattle.clerk_cache.proofs.Flagging.{flagged-off, flagged-same}
-use Rattle.clerk_cache.proofs.Joining.{alike-states, joined-states, states_ascend}
+use Rattle.clerk_cache.specs.Kept.{AreAlike, flagged, is_state_flying, is_state_staying, joined, moved_state}
+use Rattle.clerk_cache.proofs.Flagging.{flagged-same}
+use Rattle.clerk_cache.proofs.Joining.{alike-states, joined-states}
 use Rattle.clerk_cache.proofs.cache.Cache.move_cover.Goals as goal
 
 pub invariant_of-self : goal.invariant_of-self

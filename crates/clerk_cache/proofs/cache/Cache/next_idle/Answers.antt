@@ -1,8 +1,8 @@
 -- The least mark of the states that pass is that of the sectors.
-use Rattle.std.proofs.Common.{◌≡◌, Bool, true, not, ◌&&◌, refl, ap, sym, ◌∙◌}
+use Rattle.std.proofs.Common.{not, ap, sym, ◌∙◌}
 use mathlib.Core.Bool.{and-true}
 use Rattle.flush_order.specs.Marks.{next_reached, sector_reached}
-use Rattle.clerk_cache.specs.Kept.{flagged, is_idle, is_state_flying, is_state_staying}
+use Rattle.clerk_cache.specs.Kept.{is_idle, is_state_flying}
 use Rattle.clerk_cache.specs.Marks.{idle_marks_of, is_one}
 use Rattle.clerk_cache.proofs.IdleMarks.{passing-joined, told}
 use Rattle.clerk_cache.proofs.Joining.{states_ascend}

@@ -1,6 +1,5 @@
 -- The least mark of the states that pass is that of the sectors.
-use Rattle.std.proofs.Common.{◌≡◌, Bool, true, not, ◌&&◌, refl, ap, sym, ◌∙◌}
-use mathlib.Core.Bool.{and-true}
+use Rattle.std.proofs.Common.{not, ◌&&◌, ap, ◌∙◌}
 use Rattle.flush_order.specs.Marks.{next_reached, sector_reached}
 use Rattle.clerk_cache.specs.Kept.{flagged, is_idle_staying, is_state_flying, is_state_staying}
 use Rattle.clerk_cache.specs.Marks.{idle_marks_of, is_one_staying}

@@ -1,7 +1,7 @@
 -- Both maps have room for the sector, and take it; its flags stay.
-use Rattle.std.proofs.Common.{◌≡◌, false, ◌&&◌, is_some, IsSome, None, sym, ap, ◌∙◌, arith}
+use Rattle.std.proofs.Common.{false, ◌&&◌, ap, ◌∙◌, arith}
 use Rattle.std.specs.Option.{option_map, unwrap_or}
-use Rattle.sector_bytes.specs.SectorMaps.{value_at, with_value, room_for}
+use Rattle.sector_bytes.specs.SectorMaps.{with_value, room_for}
 use Rattle.cache_definitions.specs.Flags.{but}
 use Rattle.clerk_cache.specs.Kept.{cached_of, flagged, is_state_flying, is_state_staying, joined, state_set}
 use Rattle.clerk_cache.proofs.Flagging.{set-same, set-off}

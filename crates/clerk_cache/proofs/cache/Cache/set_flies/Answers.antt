@@ -1,12 +1,11 @@
 -- The flag alone is another.
-use Rattle.std.proofs.Common.{◌≡◌, Bool, true, false, if◌then◌else◌, refl, sym, ap, ◌∙◌, subst, arith}
+use Rattle.std.proofs.Common.{if◌then◌else◌, refl, sym, ap, ◌∙◌, subst, arith}
 use Rattle.sector_bytes.proofs.MapLaws.{adjusted_by_nothing}
-use Rattle.sector_bytes.specs.SectorMaps.{adjusted}
 use Rattle.cache_definitions.specs.Flags.{but, with_cached}
 use Rattle.clerk_cache.specs.Kept.{AreAlike, flagged, flown_state, is_state_flying, is_state_staying, joined}
 use Rattle.clerk_cache.proofs.Flagging.{flagged-same}
 use Rattle.clerk_cache.proofs.Flown.{flown_either}
-use Rattle.clerk_cache.proofs.Joining.{alike-states, joined-states, states_ascend}
+use Rattle.clerk_cache.proofs.Joining.{alike-states, joined-states}
 use Rattle.clerk_cache.proofs.cache.Cache.set_flies.Goals as goal
 
 pub invariant_of-self : goal.invariant_of-self

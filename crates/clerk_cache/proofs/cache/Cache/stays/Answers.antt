@@ -1,5 +1,5 @@
 -- The flag is kept beside the block.
-use Rattle.std.proofs.Common.{◌≡◌, true, false, ap, sym, ◌∙◌}
+use Rattle.std.proofs.Common.{false, ap, sym, ◌∙◌}
 use Rattle.std.specs.Option.{option_map, unwrap_or}
 use Rattle.frang_base.specs.Functions.{member}
 use Rattle.cache_definitions.specs.Caches.{is_dirty_at}

@@ -2,7 +2,7 @@
 use Rattle.std.proofs.Common.{ap, ◌∙◌}
 use Rattle.flush_order.specs.Marks.{least, first_mark}
 use Rattle.flush_order.proofs.MarkOrder.{first_is_least}
-use Rattle.clerk_cache.specs.Kept.{is_idle_staying, mark_key, passing_marks}
+use Rattle.clerk_cache.specs.Kept.{is_idle_staying, passing_marks}
 use Rattle.clerk_cache.proofs.MarkKeys.{keyed_passing}
 use Rattle.clerk_cache.proofs.states.States.first_staying.Goals as goal
 

@@ -4,7 +4,7 @@ use Rattle.sector_bytes.specs.SectorMaps.{Ascend}
 use Rattle.meta_version.proofs.SectorPlaces.{ascend_none}
 use Rattle.flush_order.specs.Marks.{mark_cmp}
 use Rattle.clerk_cache.specs.declared.state.SectorState.{SectorState}
-use Rattle.clerk_cache.specs.Kept.{is_idle, is_idle_bytes, is_idle_staying, is_state_dirty, is_state_fresh, mark_key, state_mark}
+use Rattle.clerk_cache.specs.Kept.{count_of, is_idle, is_idle_bytes, is_idle_staying, is_state_bytes, is_state_dirty, is_state_fresh, mark_key, state_mark}
 use Rattle.clerk_cache.specs.Keys.{keyed}
 use Rattle.clerk_cache.specs.Covers.{cover_cmp, cover_key, is_any}
 use Rattle.clerk_cache.specs.CoveredMarks.{covered_mark_cmp, covered_mark_key}
@@ -25,4 +25,5 @@ invariant_of-result c = record {
   covers = c.new-7.ensures.entries ∙ ap (keyed cover_cmp (cover_key is_any)) (sym c.new.ensures.entries);
   dirty = c.new-8.ensures.entries ∙ ap (keyed cover_cmp (cover_key is_state_dirty)) (sym c.new.ensures.entries);
   waiting = c.new-9.ensures.entries ∙ ap (keyed covered_mark_cmp (covered_mark_key is_idle)) (sym c.new.ensures.entries);
+  counted = ap (count_of is_state_bytes) (sym c.new.ensures.entries);
 }

@@ -2,7 +2,7 @@
 use Rattle.std.proofs.Common.{◌-◌, ◌≤◌, [], ◌∷◌, length, sym, ap, ◌∙◌, subst, arith}
 use Rattle.sector_bytes.specs.SectorMaps.{Ascend}
 use Rattle.flush_order.specs.Marks.{mark_cmp}
-use Rattle.clerk_cache.specs.Kept.{is_idle, is_idle_bytes, is_idle_staying, is_state_dirty, is_state_fresh, mark_key, state_mark}
+use Rattle.clerk_cache.specs.Kept.{count_of, is_idle, is_idle_bytes, is_idle_staying, is_state_bytes, is_state_dirty, is_state_fresh, mark_key, state_mark}
 use Rattle.clerk_cache.specs.Indexing.{most_of, most_of_all}
 use Rattle.clerk_cache.specs.Keys.{keyed}
 use Rattle.clerk_cache.specs.Covers.{cover_cmp, cover_key, is_any}
@@ -30,6 +30,7 @@ invariant_of-self c =
       covers = c.reserve-7.ensures.keys ∙ c.self.invariant.covers ∙ ap (keyed cover_cmp (cover_key is_any)) (sym c.reserve.ensures.entries);
       dirty = c.reserve-8.ensures.keys ∙ c.self.invariant.dirty ∙ ap (keyed cover_cmp (cover_key is_state_dirty)) (sym c.reserve.ensures.entries);
       waiting = c.reserve-9.ensures.keys ∙ c.self.invariant.waiting ∙ ap (keyed covered_mark_cmp (covered_mark_key is_idle)) (sym c.reserve.ensures.entries);
+      counted = c.self.invariant.counted ∙ ap (count_of is_state_bytes) (sym c.reserve.ensures.entries);
     }
 
 pub returns-clause-spare : goal.returns-clause-spare
