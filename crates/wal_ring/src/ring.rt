@@ -1,10 +1,11 @@
 // The ring.
-ghost use Rattle.std.specs.Prelude.{◌≡◌, ℕ, Bool, ◌==◌, ◌+◌, ◌-◌, ◌<◌, ◌≤◌, ◌^◌, map, Ok, IfOk, IsOk, OnOk, IsSomeAnd, IsTrue};
+ghost use Rattle.std.specs.Prelude.{◌≡◌, ℕ, Bool, true, ◌==◌, ◌+◌, ◌-◌, ◌<◌, ◌≤◌, ◌^◌, map, Ok, IfOk, IsOk, OnOk, IsSomeAnd, IsTrue};
 ghost use Rattle.std.specs.List.{list_all, list_any};
 ghost use Rattle.std.specs.VecDeque.{deque_len, deque_capacity};
 ghost use Rattle.frang_base.specs.declared.limits.TheConstants.{LOG_NUMBERS_END, LOG_SECTORS};
 ghost use Rattle.ring_definitions.specs.Rings as rings;
 ghost use Rattle.ring_definitions.specs.Rings.{is_record, append_answer, ring_at, appended, passed, oldest_versions, reclaimed};
+ghost use Rattle.wal_ring.specs.Kept.{is_first_open};
 ghost use Rattle.wal_ring.specs.SpaciousRings.{HasRoom, KeepsRoom, KeepsRoomBut};
 ghost use Rattle.wal_ring.specs.Outcomes.{AppendOutcome, ReserveOutcome, ReclaimOutcome};
 
@@ -230,15 +231,17 @@ impl Ring {
         }
     }
 
-    /// The sector of this number, which was issued, is acknowledged. A number that is passed already changes nothing. It takes no memory.
+    /// The sector of this number is acknowledged. A number that is passed already, or isn't issued, changes nothing. It takes no memory.
     pub fn acked(&mut self, seq: u64)
-        requires { seq ≤ rings.sent self.old.ring }
         ensures ring { self.new.ring ≡ rings.acked self.old.ring seq }
         ensures sent { rings.sent self.new.ring ≡ rings.sent self.old.ring }
         ensures last { rings.last self.new.ring ≡ rings.last self.old.ring }
         ensures room { KeepsRoom self.old self.new }
     {
         if seq <= self.reached {
+            return;
+        }
+        if self.sent() < seq {
             return;
         }
         let at = (seq - self.reached - 1) as usize;
@@ -307,6 +310,7 @@ impl Ring {
 fn pass(mut reached: u64, above: &mut VecDeque<bool>) -> u64
     requires { reached + deque_len above.old < LOG_NUMBERS_END }
     ensures passes { (ring : rings.Ring) → passed ring reached above.old.items ≡ record ring { reached = result; above = above.new.items } }
+    ensures first_open { is_first_open above.new.items ≡ true }
     ensures rises { reached ≤ result }
     ensures numbers { result + deque_len above.new ≡ reached + deque_len above.old }
     ensures capacity { deque_capacity above.old ≤ deque_capacity above.new }
