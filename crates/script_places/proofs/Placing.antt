@@ -1,5 +1,5 @@
 -- What the kept places say: what is answered before a number, and where the next lines are once one more is answered.
-use Rattle.std.proofs.Common.{◌≡◌, ℕ, suc, ◌+◌, ◌<◌, ◌≤◌, ◌==◌, Bool, true, false, not, ◌&&◌, if◌then◌else◌, List, [], ◌∷◌, drop, filter, length, set, get_or, Option, Some, None, nat_le, nat_lt, refl, sym, ap, ◌∙◌, subst, add-zero, zero-add, arith, inl, inr, ◌⊎◌}
+use Rattle.std.proofs.Common.{IfSome, ◌≡◌, ℕ, suc, ◌+◌, ◌<◌, ◌≤◌, ◌==◌, Bool, true, false, not, ◌&&◌, if◌then◌else◌, List, [], ◌∷◌, drop, filter, length, set, get_or, Option, Some, None, nat_le, nat_lt, refl, sym, ap, ◌∙◌, subst, add-zero, zero-add, arith, inl, inr, ◌⊎◌}
 use Rattle.std.specs.Prelude.{find, is_none, IsSomeAnd}
 use Rattle.std.specs.List.{AllByRecursion, list_all, position_or_len}
 use Rattle.std.proofs.lemmas.Bool.{and_parts, cases_eq, false≢true}
@@ -11,7 +11,7 @@ use Rattle.frang_base.specs.declared.script.Line.{Line}
 use Rattle.tree_definitions.specs.Transcript.{lines_before, lines_for}
 use Rattle.core_definitions.specs.Scripts.{Marks, all_marked, next_line}
 use Rattle.world_definitions.specs.Worlds.{marks_of}
-use Rattle.script_places.specs.Placed.{all_above, ascends, is_next_of, is_unanswered, IsPlaced}
+use Rattle.script_places.specs.Placed.{all_above, ascends, is_next_of, is_unanswered, IsMarked, IsPlaced, Placed}
 use Rattle.script_places.proofs.Marking.{found_marked}
 
 clash : {P : Type 0} (b : Bool) → b ≡ true → b ≡ false → P
@@ -204,13 +204,14 @@ some_and (Some x) P h = (x, refl, h)
 lt_of : (a b : ℕ) → nat_lt a b ≡ true → a < b
 lt_of a b e = grind (arith, nat_tests, e)
 
-pub placed_after : (script : List Line) (answered after : List Bool) (next : List ℕ) (first who number at start : ℕ) (found : Line) → IsPlaced script answered next first → who < 256
+pub placed_after : (script : List Line) (answered after passed : List Bool) (next : List ℕ) (first who number at start : ℕ) (found : Line) → IsPlaced script answered passed next first → who < 256
     → next_line script (marks_of answered) who ≡ Some found → found.number ≡ number → after ≡ set answered number true
     → at ≡ get_or next who 0 + position_or_len (is_next_of (marks_of after) who) (drop (get_or next who 0) script) → start ≡ first + position_or_len (is_unanswered (marks_of after)) (drop first script)
-    → IsPlaced script after (set next who at) start
-placed_after script answered after next first who number at start found placed party found_is number_is marked at_is start_is = record {
+    → IsPlaced script after passed (set next who at) start
+placed_after script answered after passed next first who number at start found placed party found_is number_is marked at_is start_is = record {
   ascending = placed.ascending;
   marked = subst (λ k. list_all (λ line. nat_lt line.number k) script ≡ true) (sym (ap length marked ∙ length-set answered number true)) placed.marked;
+  passing = placed.passing ∙ sym (ap length marked ∙ length-set answered number true);
   long = length-set next who at ∙ placed.long;
   each = λ w inside. each w inside (cases_eq w who);
   start = start_is ∙ ap (λ i. i + position_or_len (is_unanswered new) (drop i script)) placed.start ∙ sym (position_on (is_unanswered old) (is_unanswered new) (λ x e. unmarked_before x.number e) script);
@@ -249,6 +250,15 @@ placed_after script answered after next first who number at start found placed p
         ∙ ap (λ s. position_or_len (is_next_of new s) script) (sym same)
     each w inside (inr apart) = get_or-set_other next who w at 0 apart ∙ placed.each w inside
         ∙ sym (position_same (is_next_of new w) (is_next_of old w) script (others_same old new number own others who w apart script found placed.ascending found_is number_is))
+
+-- a party's next line has both its marks
+pub next_is_marked : (placed : Placed) (who : ℕ) (next : List ℕ) (first : ℕ) (line : Option Line) → IsPlaced placed.script placed.answered placed.passed next first
+    → line ≡ next_line placed.script (marks_of placed.answered) who → IfSome line (IsMarked placed)
+next_is_marked placed who next first None kept is = tt
+next_is_marked placed who next first (Some line) kept is =
+    let below : line.number < length placed.answered =
+    lt_of line.number (length placed.answered) (found_marked (is_next_of (marks_of placed.answered) who) (length placed.answered) placed.script line kept.marked (sym is)) in
+    record { answered = below; passed = subst (λ n. line.number < n) (sym kept.passing) below }
 
 -- ---- the first lines of all parties
 

@@ -29,6 +29,11 @@ mark_count (line ∷ lines) = max (line.number + 1) (mark_count lines)
 abbrev pub placed_first : List Line → Placed
 placed_first script = record { script = script; answered = replicate (mark_count script) false; passed = replicate (mark_count script) false }
 
+-- a line has both its marks
+pub record IsMarked (placed : Placed) (line : Line) : Type 0 where
+  pub answered : line.number < length placed.answered
+  pub passed : line.number < length placed.passed
+
 -- ---- how they are kept
 
 abbrev pub is_unanswered : Marks → Line → Bool
@@ -37,10 +42,11 @@ is_unanswered answered line = not (answered line.number)
 abbrev pub is_next_of : Marks → ℕ → Line → Bool
 is_next_of answered who line = line.who.0 == who && not (answered line.number)
 
--- the lines ascend and have marks; the places are those of each party's next line, and of the first line that isn't answered
-pub record IsPlaced (script : List Line) (answered : List Bool) (next : List ℕ) (first : ℕ) : Type 0 where
+-- the lines ascend and have both marks; the places are those of each party's next line, and of the first line that isn't answered
+pub record IsPlaced (script : List Line) (answered passed : List Bool) (next : List ℕ) (first : ℕ) : Type 0 where
   pub ascending : IsTrue (ascends script)
   pub marked : IsTrue (list_all (λ line. nat_lt line.number (length answered)) script)
+  pub passing : length passed ≡ length answered
   pub long : length next ≡ 256
   pub each : (who : ℕ) → who < 256 → slice_index next who ≡ position_or_len (is_next_of (marks_of answered) who) script
   pub start : first ≡ position_or_len (is_unanswered (marks_of answered)) script

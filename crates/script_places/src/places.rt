@@ -1,11 +1,11 @@
 // The places of all parties.
-ghost use Rattle.std.specs.Prelude.{◌≡◌, true, Some, IfOk, IsSomeAnd, IsTrue, slice_set};
+ghost use Rattle.std.specs.Prelude.{◌≡◌, true, Some, IfOk, IfSome, IsSomeAnd, IsTrue, slice_set};
 ghost use Rattle.std.specs.List.{find};
 ghost use Rattle.std.specs.Option.{option_copied};
 ghost use Rattle.core_definitions.specs.Scripts as words;
 ghost use Rattle.core_definitions.specs.Scripts.{host_party, next_line};
 ghost use Rattle.world_definitions.specs.Worlds.{marks_of};
-ghost use Rattle.script_places.specs.Placed.{ascends, is_unanswered, placed_first};
+ghost use Rattle.script_places.specs.Placed.{IsMarked, ascends, is_unanswered, placed_first};
 
 use crate::marks::{is_marked, mark, unmarked};
 use crate::scan::{first_places, next_place, open_place, place_of};
@@ -32,7 +32,7 @@ impl Model for Places {
 
     ghost view = { λ places. record { script = places.script; answered = places.answered.items; passed = places.passed.items } };
 
-    ghost invariant = { λ places. IsPlaced places.script places.answered.items places.next.items places.first };
+    ghost invariant = { λ places. IsPlaced places.script places.answered.items places.passed.items places.next.items places.first };
 }
 
 impl Places {
@@ -63,6 +63,7 @@ impl Places {
     /// The next line of a party, a server or the host: its first that isn't answered. `None` exactly where all its lines are.
     pub fn next(&self, who: ServerId) -> Option<&Line>
         ensures line { option_copied result ≡ next_line self.now.script (marks_of self.now.answered) who.0 }
+        ensures marked { IfSome (option_copied result) (IsMarked self.now) }
         ensures ascending { IsTrue (ascends self.now.script) }
     {
         self.script.get(place_of(&self.next, who))

@@ -27,7 +27,7 @@ invariant_of-self c =
     let old = c.args.self.now in
     let found = some_and (next_line old.script (marks_of old.answered) who) _ c.requires in
     let at = c.place_of-at.ensures.place ∙ ap (λ xs. get_or xs who 0) c.deref.ensures.value in
-    placed_after script answered c.mark.new.marks.items next first who c.args.number c.next_place.result c.open_place-self-inside.result found.0 c.self.invariant c.place_of-at.ensures.party
+    placed_after script answered c.mark.new.marks.items c.self.inside.passed.items next first who c.args.number c.next_place.result c.open_place-self-inside.result found.0 c.self.invariant c.place_of-at.ensures.party
     (ap (λ p. next_line p.script (marks_of p.answered) who) c.self.view_is ∙ found.1) found.2 c.mark.ensures
     (c.next_place.ensures ∙ (λ i. at i + position_or_len (is_next_of (marks_of (c.deref-2.ensures.value i)) who) (drop (at i) (c.as_slice-lines.ensures i))))
     (c.open_place-self-inside.ensures ∙ (λ i. first + position_or_len (is_unanswered (marks_of (c.deref-3.ensures.value i))) (drop first (c.as_slice-lines.ensures i))))

@@ -16,6 +16,8 @@ invariant_of-result c =
     record {
       ascending = c.requires;
       marked = subst (λ marks. list_all (λ line. nat_lt line.number (length marks)) script ≡ true) (sym is) (enough_marks script);
+      passing =
+          ap length (c.in_ok-passed.ensures ∙ ap (λ lines. replicate (mark_count lines) false) c.as_slice-2.ensures) ∙ sym (ap length is);
       long = c.in_ok-next.ensures.long;
       each = λ who inside. c.in_ok-next.ensures.first who inside ∙ ap (position_or_len (λ line. line.who.0 == who)) c.as_slice-3.ensures ∙ first_of_party (marks_of answered) none who script;
       start = sym (first_of_all (marks_of answered) none script);
