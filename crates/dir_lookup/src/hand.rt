@@ -1,12 +1,12 @@
 // What plans are made over.
 use frang_base::Held;
-use meta_version::Sectors;
+use usable_sectors::Usable;
 
 /// What a plan has at hand. The sectors and the bitmaps are those of one disk.
 #[derive(Clone, Copy)]
 pub struct Hand<'a> {
-    /// The sectors that are cached.
-    pub sectors: &'a Sectors,
+    /// The cached sectors that may be used. Any other is as one that isn't cached.
+    pub sectors: &'a Usable<'a>,
     /// The bitmaps of the segments that are held.
     pub held: &'a Held,
     /// Whether the held segments are all segments of the disk.

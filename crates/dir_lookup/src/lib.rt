@@ -1,6 +1,6 @@
 //! Cached sectors as plans read them: what a plan has at hand, inodes, sectors of directories, the names in a directory, and the walk of
 //! a path. The contracts promise what the reading programs of the plans come to over the same sectors, the first sector that isn't cached
-//! included. It stands on the map of cached sectors, the coders of sectors and the definitions of plans.
+//! included. It stands on the view of the cached sectors that may be used, the coders of sectors and the definitions of plans.
 #![tactic(auto)]
 
 mod hand;

@@ -19,7 +19,7 @@ use dir_block::find;
 use disk_definitions::{DirEntry, DirSector, Inode};
 use frang_base::Name;
 use frang_base::limits::{SECTOR_ENTRIES, SMALL_BLOCK_SECTORS};
-use meta_version::Sectors;
+use usable_sectors::Usable;
 
 /// An entry, and its place in its directory: by block, sector and place, 56 to a block.
 #[derive(Clone, Copy, PartialEq, Eq)]
@@ -30,7 +30,7 @@ pub struct Found {
 
 /// The first entry of this name in a directory of at most 16 blocks. `None` exactly where the name isn't there.
 pub fn first_named(
-    sectors: &Sectors,
+    sectors: &Usable,
     directory: &Inode,
     name: &Name,
     looked: &mut Looked,
@@ -50,7 +50,7 @@ pub fn first_named(
 
 /// The first free place of a directory of at most 16 blocks. `None` exactly where there is none.
 pub fn first_vacant(
-    sectors: &Sectors,
+    sectors: &Usable,
     directory: &Inode,
     looked: &mut Looked,
 ) -> Result<Option<u32>, Need>
@@ -69,7 +69,7 @@ pub fn first_vacant(
 
 /// Sector `j` of a directory, 8 to a block.
 pub fn part_at(
-    sectors: &Sectors,
+    sectors: &Usable,
     directory: &Inode,
     j: u32,
     looked: &mut Looked,

@@ -20,17 +20,17 @@ use frang_base::limits::KIND_FREE;
 use frang_base::{Block, Name, Sector};
 use frang_layout::{Region, sector_of};
 use inode_block::decode;
-use meta_version::Sectors;
+use usable_sectors::Usable;
 
 /// The block of a sector. `Need` names the sector where it isn't cached.
-pub fn block_at(sectors: &Sectors, sector: Sector) -> Result<&Block, Need>
+pub fn block_at<'a>(sectors: &'a Usable, sector: Sector) -> Result<&'a Block, Need>
     ensures { read_of (λ block. block.now) result ≡ read_or_lacks sector.0 (value_at sectors.now.entries sector.0) }
 {
     sectors.get(sector).ok_or(Need(sector))
 }
 
 /// Inode `i`, where it is in use. `None` exactly where its sector is that of a free inode, or of none. The sector is looked at.
-pub fn inode_at(sectors: &Sectors, i: u32, looked: &mut Looked) -> Result<Option<Inode>, Need>
+pub fn inode_at(sectors: &Usable, i: u32, looked: &mut Looked) -> Result<Option<Inode>, Need>
     ensures reads { Reads (option_map stored) (ReadInode i Got) sectors.now.entries result }
     ensures used { IfOk result (λ o. IfSome o IsUsed) }
     ensures looks { (held : Segments) → Adds looked.old looked.new (looks_of (ReadInode i Got) sectors.now.entries held) }
@@ -56,7 +56,7 @@ fn used_inode(block: &Block) -> Option<Inode>
 
 /// Part `part` of a small block as a sector of a directory, which is looked at. One that is no sector of a directory has no entries.
 pub fn directory_at(
-    sectors: &Sectors,
+    sectors: &Usable,
     block: u32,
     part: u8,
     looked: &mut Looked,

@@ -14,11 +14,11 @@ ghost use Rattle.dir_lookup.specs.Passing.{PassesFrom};
 use crate::{Looked, Need, NumberedInode, Refusal, Spot, first_named, inode_at};
 use frang_base::Name;
 use frang_base::limits::{KIND_DIRECTORY, ROOT_INODE};
-use meta_version::Sectors;
+use usable_sectors::Usable;
 
 /// A name looked up in a directory of at most 16 blocks.
 pub fn look_up(
-    sectors: &Sectors,
+    sectors: &Usable,
     directory: &NumberedInode,
     name: &Name,
     looked: &mut Looked,
@@ -43,7 +43,7 @@ pub fn look_up(
 }
 
 /// A name below the node of an inode, which has to be a directory.
-pub fn step(sectors: &Sectors, number: u32, name: &Name, looked: &mut Looked) -> Result<Spot, Need>
+pub fn step(sectors: &Usable, number: u32, name: &Name, looked: &mut Looked) -> Result<Spot, Need>
     ensures looks { (dirs : List ℕ) (held : Segments) → Adds looked.old looked.new (looks_of (ReadInode number (walks.in_inode dirs number name.now)) sectors.now.entries held) }
     ensures reads { (dirs : List ℕ) → Reads (λ s. walked_in dirs number (spot_of s)) (ReadInode number (walks.in_inode dirs number name.now)) sectors.now.entries result }
 {
@@ -56,7 +56,7 @@ pub fn step(sectors: &Sectors, number: u32, name: &Name, looked: &mut Looked) ->
 
 // A name below a node, which has to be a directory.
 fn below(
-    sectors: &Sectors,
+    sectors: &Usable,
     node: &NumberedInode,
     name: &Name,
     looked: &mut Looked,
@@ -73,7 +73,7 @@ fn below(
 }
 
 /// Where the walk of a path leads, from the root on.
-pub fn walk_spot(sectors: &Sectors, path: &[Name], looked: &mut Looked) -> Result<Spot, Need>
+pub fn walk_spot(sectors: &Usable, path: &[Name], looked: &mut Looked) -> Result<Spot, Need>
     ensures looks { (held : Segments) → Adds looked.old looked.new (looks_of (walks.walk path.now) sectors.now.entries held) }
     ensures reads { Reads spot_of (bind (walks.walk path.now) (λ w. Got w.spot)) sectors.now.entries result }
 {
@@ -84,7 +84,7 @@ pub fn walk_spot(sectors: &Sectors, path: &[Name], looked: &mut Looked) -> Resul
 
 /// Where the walk of a path leads, from the root on, and whether it looks up a name in the directory of this inode.
 pub fn walk_passing(
-    sectors: &Sectors,
+    sectors: &Usable,
     path: &[Name],
     inode: u32,
     looked: &mut Looked,
@@ -97,7 +97,7 @@ pub fn walk_passing(
 
 // Where the walk of names leads, from an inode on, and whether it looks up a name in the directory of this inode.
 fn passes_from(
-    sectors: &Sectors,
+    sectors: &Usable,
     from: u32,
     names: &[Name],
     inode: u32,
