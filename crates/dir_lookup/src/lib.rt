@@ -15,6 +15,6 @@ pub use hand::Hand;
 pub use looked::Looked;
 pub use need::Need;
 pub use search::{Found, first_named, first_vacant, part_at};
-pub use sectors::{block_at, directory_at, entry_at, inode_at, name_of};
+pub use sectors::{block_at, directory_at, entry_at, inode_at, name_of, used_inode};
 pub use spot::{NumberedInode, Refusal, Spot};
 pub use walk::{look_up, step, walk_passing, walk_spot};

@@ -41,8 +41,8 @@ pub fn inode_at(sectors: &Usable, i: u32, looked: &mut Looked) -> Result<Option<
     Ok(used_inode(block))
 }
 
-// The inode of a block, where it is in use.
-fn used_inode(block: &Block) -> Option<Inode>
+/// The inode whose sector the block is, where it is in use. `None` exactly where it is that of a free inode, or of none.
+pub fn used_inode(block: &Block) -> Option<Inode>
     ensures is { option_map stored result ≡ stored_node (inode_in block.now) }
     ensures used { IfSome result IsUsed }
 {
