@@ -13,7 +13,7 @@ use Rattle.recovery_demon.specs.declared.stage.Stage.{Stage}
 use Rattle.recovery_demon.specs.declared.stage.Stage.TheVariants.{Replay, LaterSeals, FirstSeal, Over}
 use Rattle.recovery_demon.specs.Replays.{AtEnd, AtLater, AtReplay, AtStage, IsKept, IsNearly, Replaying, is_over, look_made, looked_writes, stage_writes, waiting_with, wanted_at, write_acknowledged, write_issued, write_lost}
 use Rattle.recovery_demon.specs.Rules.{later_writes, named, seal}
-use Rattle.recovery_demon.proofs.Maps.{at_with, at_without, member_here, member_other, other_with, other_without}
+use Rattle.log_slots.proofs.Maps.{at_with, at_without, member_here, member_other, other_with, other_without}
 use Rattle.recovery_demon.proofs.NamedSectors.{named_changeable}
 use Rattle.recovery_demon.proofs.SealWrites.{first_apart, later_found}
 use Rattle.recovery_demon.proofs.Wanted.{looked_at, none_left}

@@ -10,7 +10,7 @@ use Rattle.recovery_demon.specs.declared.stage.Stage.{Stage}
 use Rattle.recovery_demon.specs.declared.stage.Stage.TheVariants.{Replay, LaterSeals, FirstSeal, Over}
 use Rattle.recovery_demon.specs.Replays.{AreOrdered, AtEnd, AtFirst, AtLater, AtReplay, AtStage, IsKept, IsNearly, IsReplayed, Replaying, advanced, gone_on, is_idle, is_over, left_of, next_first, next_later, next_stage, next_waiting, stage_writes, wanted_at}
 use Rattle.recovery_demon.specs.Rules.{first_writes, later_writes, seal}
-use Rattle.recovery_demon.proofs.Maps.{at_other, first_there}
+use Rattle.log_slots.proofs.Maps.{at_other, first_there}
 use Rattle.recovery_demon.proofs.SealWrites.{later_found, later_some, seal_apart}
 use Rattle.recovery_demon.proofs.Wanted.{left_at, nil_of, nothing_wanted}
 

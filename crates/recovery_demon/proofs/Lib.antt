@@ -1,4 +1,3 @@
-pub mod Maps
 pub mod SealWrites
 pub mod Wanted
 pub mod GoingOn
@@ -6,8 +5,6 @@ pub mod NamedSectors
 pub mod Changing
 pub mod Meaning
 pub mod Seen
-pub mod UnreadSlots
-pub mod SameReading
 pub mod Parts
 pub mod Tied
 pub mod Beginning

@@ -13,8 +13,9 @@ use Rattle.recovery_demon.specs.declared.stage.Stage.{Stage}
 use Rattle.recovery_demon.specs.declared.stage.Stage.TheVariants.{Replay, LaterSeals, FirstSeal, Over}
 use Rattle.recovery_demon.specs.Inside.{IsTied}
 use Rattle.recovery_demon.specs.Replays.{AtFirst, AtLater, AtStage, IsNearly, Replaying, is_idle, is_over, left_of, looked_writes, stage_writes, wanted_at}
-use Rattle.recovery_demon.specs.Rules.{are_all_read, first_writes, later_writes, log_rules, named, read_slots, seal}
-use Rattle.recovery_demon.proofs.Maps.{filter_member, filter_sorted, keys_member, same_lists}
+use Rattle.log_slots.specs.Reading.{are_all_read, log_rules, read_slots}
+use Rattle.recovery_demon.specs.Rules.{first_writes, later_writes, named, seal}
+use Rattle.log_slots.proofs.Maps.{filter_member, filter_sorted, keys_member, same_lists}
 use Rattle.recovery_demon.proofs.NamedSectors.{named_sorted}
 use Rattle.recovery_demon.proofs.Wanted.{left_at, nil_of, nothing_flies, nothing_waits}
 

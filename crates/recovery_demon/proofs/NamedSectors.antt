@@ -15,7 +15,7 @@ use Rattle.disk_definitions.specs.Replay.{is_replayed}
 use Rattle.disk_definitions.specs.Written.{ascending}
 use Rattle.recovery_demon.specs.Naming.{AreAdded, SectorSet, is_changeable}
 use Rattle.recovery_demon.specs.Rules.{named}
-use Rattle.recovery_demon.proofs.Maps.{ascending_member, ascending_sorted, filter_member, filter_sorted, at_with, member_append, member_here, member_other, other_with}
+use Rattle.log_slots.proofs.Maps.{ascending_member, ascending_sorted, filter_member, filter_sorted, at_with, member_append, member_here, member_other, other_with}
 
 abbrev pub names : List Redo → List ℕ
 names records = flat_map (λ redo. map (λ change. change.sector.0) redo.changes) records

@@ -19,8 +19,9 @@ use Rattle.disk_definitions.specs.Replay.{is_replayed}
 use Rattle.disk_definitions.proofs.Lists.{below_at, length_below}
 use Rattle.disk_definitions.proofs.RegionLaws.{region_found}
 use Rattle.core_definitions.specs.Logs.{is_none}
-use Rattle.recovery_demon.specs.Rules.{later_from, later_writes, log_rules, seal}
-use Rattle.recovery_demon.proofs.Maps.{below_member}
+use Rattle.log_slots.specs.Reading.{log_rules}
+use Rattle.recovery_demon.specs.Rules.{later_from, later_writes, seal}
+use Rattle.log_slots.proofs.Maps.{below_member}
 
 -- ---- where they lie
 

@@ -18,8 +18,8 @@ use Rattle.recovery_demon.specs.declared.next.Next.TheVariants as next
 use Rattle.recovery_demon.specs.Inside.{IsTied, replay_end, replay_wants}
 use Rattle.recovery_demon.specs.Recovering.{behind_loads, end_of, first_sector_from, greatest_kept, is_all_done, log_redos, look, looks_wanted, write, write_sectors, writes_wanted}
 use Rattle.recovery_demon.specs.Replays.{Replaying, is_over, left_of, looked_writes}
-use Rattle.recovery_demon.specs.Rules.{are_all_read, log_rules}
-use Rattle.recovery_demon.proofs.Maps.{ascending_member, ascending_sorted, keys_member, same_lists}
+use Rattle.log_slots.specs.Reading.{are_all_read, log_rules}
+use Rattle.log_slots.proofs.Maps.{ascending_member, ascending_sorted, keys_member, same_lists}
 use Rattle.recovery_demon.proofs.Meaning.{greatest_is, looks_are, through_is, writes_are}
 
 module _ (dead segments : ℕ) (slots : SlotsRead) (r : Replaying) (tied : IsTied dead segments slots r) where

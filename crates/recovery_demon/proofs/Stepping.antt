@@ -11,8 +11,8 @@ use Rattle.core_definitions.specs.WriteEffects.{acknowledged_for}
 use Rattle.recovery_demon.specs.Inside.{IsOpened, IsTied, recovering_of}
 use Rattle.recovery_demon.specs.Recovering.{Recovering, log_redos, looks_wanted, wanted_over}
 use Rattle.recovery_demon.specs.Replays.{IsKept, Kept, Replaying, advanced, gone_on, is_idle, look_made, write_acknowledged, write_issued, write_lost}
-use Rattle.recovery_demon.specs.Rules.{are_all_read, log_rules, read_slots}
-use Rattle.recovery_demon.proofs.Maps.{keys_member}
+use Rattle.log_slots.specs.Reading.{are_all_read, log_rules, read_slots}
+use Rattle.log_slots.proofs.Maps.{keys_member}
 use Rattle.recovery_demon.proofs.Meaning.{records_is}
 use Rattle.recovery_demon.proofs.Seen.{seen_looks}
 

@@ -8,7 +8,7 @@ use Rattle.core_definitions.specs.Logs.{SlotsRead}
 use Rattle.recovery_demon.specs.Inside.{AreTied, IsBegun, IsTied, flying_in, looked_in, recovering_of, written_in}
 use Rattle.recovery_demon.specs.Recovering.{Recovering, behind_loads}
 use Rattle.recovery_demon.specs.Replays.{Kept, Replaying}
-use Rattle.recovery_demon.specs.Rules.{are_all_read}
+use Rattle.log_slots.specs.Reading.{are_all_read}
 
 pub tied_some : (dead segments : ℕ) (slots : SlotsRead) (o : Option Kept) (k : Kept) → AreTied dead segments slots o → o ≡ Some k → IsTied dead segments slots k.replay
 tied_some dead segments slots o k tied is = subst (AreTied dead segments slots) is tied

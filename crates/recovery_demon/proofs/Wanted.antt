@@ -13,7 +13,7 @@ use Rattle.sector_bytes.specs.SectorMaps.{Ascend, value_at}
 use Rattle.sector_bytes.proofs.MapLaws.{AllAbove, absent, found}
 use Rattle.core_definitions.specs.Logs.{is_none}
 use Rattle.recovery_demon.specs.Replays.{left_of, look_write, looked_writes}
-use Rattle.recovery_demon.proofs.Maps.{member_here, member_other, nothing_at}
+use Rattle.log_slots.proofs.Maps.{member_here, member_other, nothing_at}
 
 pub nil_of : {X : Type 0} (xs : List X) → is_none xs ≡ true → xs ≡ []
 nil_of [] e = refl

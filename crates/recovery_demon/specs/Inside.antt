@@ -10,7 +10,7 @@ use Rattle.recovery_demon.specs.declared.next.Next.{Next}
 use Rattle.recovery_demon.specs.declared.next.Next.TheVariants as next
 use Rattle.recovery_demon.specs.Recovering.{Recovering, look, write}
 use Rattle.recovery_demon.specs.Replays.{IsKept, Kept, Replaying, is_over}
-use Rattle.recovery_demon.specs.Rules.{are_all_read, read_slots}
+use Rattle.log_slots.specs.Reading.{are_all_read, read_slots}
 
 -- ---- a recovery with a replay, if its log is read off
 

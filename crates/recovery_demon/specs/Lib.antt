@@ -1,5 +1,4 @@
 pub mod Rules
-pub mod Unread
 pub mod Naming
 pub mod Replays
 pub mod Recovering

@@ -9,7 +9,7 @@ use Rattle.disk_definitions.specs.Written.{ascending}
 use Rattle.core_definitions.specs.Recoveries.{Recovery, is_recovered, recovery_writes, redos, to_look, wanted_block}
 use Rattle.recovery_demon.specs.declared.next.Next.{Next}
 use Rattle.recovery_demon.specs.declared.next.Next.TheVariants as next
-use Rattle.recovery_demon.specs.Rules.{log_rules, unread_slots}
+use Rattle.log_slots.specs.Reading.{log_rules, unread_slots}
 
 -- the recovery; the writes for it that are issued and not acknowledged, by sector with their blocks; whether what the slots say is read off them, or it isn't time yet; and whether
 -- there is room for the next change

@@ -1,29 +1,11 @@
--- The words of a recovery over the logs of a disk, each closed, so that no proof goes through the 256 slots.
-use Rattle.std.specs.Prelude.{ℕ, ◌+◌, Bool, List, [], ◌∷◌, drop, map}
-use Rattle.tree_definitions.specs.Numbers.{below}
+-- The words of a recovery over the logs of a disk, each closed, so that no proof goes through them.
+use Rattle.std.specs.Prelude.{ℕ, ◌+◌, List, [], ◌∷◌, drop, map}
 use Rattle.frang_base.specs.declared.change.Redo.{Redo}
+use Rattle.tree_definitions.specs.Numbers.{below}
 use Rattle.sector_bytes.specs.Blocks.{Block}
-use Rattle.sector_bytes.specs.Sectors.{sectors_of}
-use Rattle.disk_definitions.specs.Logs.{Slots}
-use Rattle.core_definitions.specs.Settings.{LogRules, disk_logs}
-use Rattle.core_definitions.specs.Logs.{SlotsRead, is_read, later_seals, log_sector, seal_block, unread}
+use Rattle.core_definitions.specs.Logs.{later_seals, log_sector, seal_block}
 use Rattle.core_definitions.specs.Recoveries.{named_sectors}
-
--- the logs of a disk
-unfoldable pub log_rules : LogRules
-log_rules = disk_logs
-
--- the slots not read yet, ascending
-unfoldable pub unread_slots : SlotsRead → List ℕ
-unread_slots slots = unread log_rules slots
-
--- every slot is read
-unfoldable pub are_all_read : SlotsRead → Bool
-are_all_read slots = is_read log_rules slots
-
--- the blocks that were read, by slot
-abbrev pub read_slots : SlotsRead → Slots
-read_slots slots = sectors_of slots
+use Rattle.log_slots.specs.Reading.{log_rules}
 
 -- the sectors that records name and a replay may change, ascending
 unfoldable pub named : ℕ → List Redo → List ℕ

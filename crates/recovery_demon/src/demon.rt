@@ -12,13 +12,13 @@ ghost use Rattle.core_definitions.specs.Recoveries.{recovery_of};
 ghost use Rattle.core_definitions.specs.WriteEffects.{acknowledged_for};
 ghost use Rattle.recovery_demon.specs.Recovering.{all_wanted, behind_loads, first_sector_from, greatest_kept, is_all_done, looks_wanted, wanted_over, write_sectors, writes_wanted};
 ghost use Rattle.recovery_demon.specs.Inside.{replay_wants};
-ghost use Rattle.recovery_demon.specs.Rules.{are_all_read, unread_slots};
+ghost use Rattle.log_slots.specs.Reading.{are_all_read, unread_slots};
 
 use crate::Next;
 use crate::listing::{push_loads, push_looks, push_writes};
 use crate::replay::Replay;
-use crate::slots::Slots;
 use frang_base::{Block, NoMemory, OpNo, Sector, ServerId};
+use log_slots::Slots;
 use std::alloc::Global;
 use std::marker::Model;
 

@@ -10,7 +10,6 @@ mod naming;
 mod next;
 mod replay;
 mod seals;
-mod slots;
 mod stage;
 
 pub use demon::Demon;

@@ -4,7 +4,8 @@ ghost use Rattle.frang_base.specs.declared.limits.TheConstants.{LOG_NUMBERS_END}
 ghost use Rattle.sector_bytes.specs.SectorMaps.{Ascend, value_at, with_value};
 ghost use Rattle.disk_definitions.specs.LogSectors as sectors;
 ghost use Rattle.core_definitions.specs.Logs.{log_sector, seal_block};
-ghost use Rattle.recovery_demon.specs.Rules.{first_writes, later_writes, log_rules, seal};
+ghost use Rattle.log_slots.specs.Reading.{log_rules};
+ghost use Rattle.recovery_demon.specs.Rules.{first_writes, later_writes, seal};
 
 use disk_definitions::LogSector;
 use frang_base::limits::{
@@ -72,7 +73,7 @@ fn first_seal(alloc: Global, dead: ServerId, end: u64) -> Result<OrderedMap<u64,
 }
 
 // Puts in the write that seals a number. There is room for it.
-#[tactic(auto, using(crate::proofs::UnreadSlots::room_most), unfolding(crate::specs::Rules::seal))]
+#[tactic(auto, using(log_slots::proofs::UnreadSlots::room_most), unfolding(crate::specs::Rules::seal))]
 fn put_seal(seals: &mut OrderedMap<u64, Block>, dead: ServerId, number: u64)
     requires room { 0 < seals.old.spare }
     requires number { number < LOG_NUMBERS_END }
@@ -83,7 +84,7 @@ fn put_seal(seals: &mut OrderedMap<u64, Block>, dead: ServerId, number: u64)
 }
 
 // The sector of a number in a server's log.
-#[tactic(auto, unfolding(crate::specs::Rules::log_rules))]
+#[tactic(auto, unfolding(log_slots::specs::Reading::log_rules))]
 fn seal_sector(dead: ServerId, number: u64) -> Sector
     ensures { result.0 ≡ log_sector log_rules dead.0 number }
 {

@@ -6,8 +6,8 @@ use Rattle.disk_definitions.specs.Logs.{Slots, log_records}
 use Rattle.disk_definitions.proofs.SameLogs.{log_end_same, log_records_same}
 use Rattle.disk_replay.specs.Laid.{HoldsChanges}
 use Rattle.disk_replay.proofs.FittingRecords.{log_holds}
-use Rattle.recovery_demon.specs.Rules.{read_slots}
-use Rattle.recovery_demon.proofs.SameReading.{sealed_same}
+use Rattle.log_slots.specs.Reading.{read_slots}
+use Rattle.log_slots.proofs.SameReading.{sealed_same}
 use Rattle.recovery_demon.proofs.replay.read.Goals as goal
 
 pub returns-clause-records : goal.returns-clause-records

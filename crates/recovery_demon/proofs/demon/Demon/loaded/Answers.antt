@@ -2,7 +2,7 @@
 use Rattle.std.proofs.Common.{sym, ◌∙◌}
 use Rattle.std.proofs.lemmas.Bool.{false≢true}
 use Rattle.recovery_demon.proofs.Tied.{all_read_in}
-use Rattle.recovery_demon.proofs.UnreadSlots.{none_unread}
+use Rattle.log_slots.proofs.UnreadSlots.{none_unread}
 use Rattle.recovery_demon.proofs.demon.Demon.loaded.Goals as goal
 
 pub unreachable-requires : goal.unreachable-requires

@@ -1,7 +1,7 @@
 -- What a replay at its beginning wants is wanted where all slots are read, and nothing where not.
 use Rattle.std.proofs.Common.{◌++◌, append-nil, sym, ap, ◌∙◌}
 use Rattle.recovery_demon.specs.Inside.{IsTied}
-use Rattle.recovery_demon.specs.Rules.{are_all_read}
+use Rattle.log_slots.specs.Reading.{are_all_read}
 use Rattle.recovery_demon.proofs.Seen.{no_wants, seen_wants}
 use Rattle.recovery_demon.proofs.Tied.{begun_as}
 use Rattle.recovery_demon.proofs.demon.Demon.push_unread_replay.Goals as goal

@@ -3,7 +3,7 @@ use Rattle.std.proofs.Common.{◌++◌, map, ap, ◌∙◌}
 use Rattle.std.specs.Map.{keys_of}
 use Rattle.ordered_map.specs.Chunks.{joined}
 use Rattle.recovery_demon.specs.Recovering.{behind_loads, load}
-use Rattle.recovery_demon.specs.Rules.{unread_slots}
+use Rattle.log_slots.specs.Reading.{unread_slots}
 use Rattle.recovery_demon.proofs.demon.Demon.wants.Goals as goal
 
 pub returns : goal.returns

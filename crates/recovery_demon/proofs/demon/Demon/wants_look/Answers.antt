@@ -2,7 +2,7 @@
 use Rattle.std.proofs.Common.{sym, ap, ◌∙◌}
 use Rattle.frang_base.specs.Functions.{member}
 use Rattle.recovery_demon.specs.Recovering.{looks_wanted}
-use Rattle.recovery_demon.proofs.Maps.{keys_member}
+use Rattle.log_slots.proofs.Maps.{keys_member}
 use Rattle.recovery_demon.proofs.Seen.{no_looks, seen_looks}
 use Rattle.recovery_demon.proofs.Tied.{seen_as, tied_some, young}
 use Rattle.recovery_demon.proofs.demon.Demon.wants_look.Goals as goal

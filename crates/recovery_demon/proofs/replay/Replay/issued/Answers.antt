@@ -6,7 +6,7 @@ use Rattle.recovery_demon.specs.Fields.{replaying_of}
 use Rattle.recovery_demon.specs.Replays.{IsKept}
 use Rattle.recovery_demon.proofs.Changing.{issued_kept}
 use Rattle.recovery_demon.proofs.Tied.{ready_flying}
-use Rattle.recovery_demon.proofs.UnreadSlots.{room_most}
+use Rattle.log_slots.proofs.UnreadSlots.{room_most}
 use Rattle.recovery_demon.proofs.replay.Replay.issued.Goals as goal
 
 pub put-requires : goal.put-requires
