@@ -187,6 +187,13 @@ impl Demon {
         }
     }
 
+    /// The server whose log it is.
+    pub fn dead(&self) -> ServerId
+        ensures { result.0 ≡ self.now.recovery.dead }
+    {
+        self.dead
+    }
+
     /// The first slot to read. `None` exactly where all are read.
     pub fn first_load(&self) -> Option<u8>
         ensures { result ≡ slice_get (unread_slots self.now.recovery.slots) 0 }
