@@ -1,8 +1,9 @@
 -- What contracts see of a line under way and of a server: those of the core, and for how much more there is room.
-use Rattle.std.specs.Prelude.{◌≡◌, ◌≤◌, ℕ, Option, Some, None, []}
+use Rattle.std.specs.Prelude.{◌≡◌, ◌≤◌, ℕ, Option, Some, None, List, []}
 use Rattle.std.specs.Option.{option_map}
 use Rattle.sector_bytes.specs.Blocks.{Block}
 use Rattle.sector_bytes.specs.SectorMaps.{Spacious}
+use Rattle.cache_definitions.specs.Flags.{FlaggedCache}
 use Rattle.ring_definitions.specs.Rings.{Ring, ring_at}
 use Rattle.wal_ring.specs.SpaciousRings.{SpaciousRing}
 use Rattle.core_definitions.specs.Lines.{Under}
@@ -32,6 +33,7 @@ spare_in (Some slots) = slots.spare
 pub record State : Type 0 where
   pub id : ℕ
   pub server : Server
+  pub flying : List ℕ  -- its cached sectors with a write in flight
   pub spare : ℕ
   pub sectors : ℕ
   pub names : ℕ
@@ -51,6 +53,10 @@ names_in (Some ring) = ring.names
 
 abbrev pub under_in : Option UnderState → Option Under
 under_in under = option_map (λ u. u.under) under
+
+-- its cached sectors with their flags
+abbrev pub cached_in : State → FlaggedCache
+cached_in state = record { entries = state.server.cache; staying = state.server.staying; flying = state.flying; spare = state.spare }
 
 -- it is the same server, and there is no less room than before
 pub record KeepsRoom (old new : State) : Type 0 where

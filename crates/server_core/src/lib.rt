@@ -4,8 +4,10 @@
 #![tactic(auto)]
 
 mod answers;
+mod due;
 mod kinds;
 mod lives;
+mod looks;
 mod phase;
 mod server;
 mod under;

@@ -64,6 +64,7 @@ impl Model for Server {
         under = under_in s.under;
         recovery = None;
       };
+      flying = s.cache.flying;
       spare = s.cache.spare;
       sectors = sectors_in s.ring;
       names = names_in s.ring;
