@@ -1,9 +1,10 @@
 #!/usr/bin/env bash
-# Runs the four commands on images with deep, wide and damaged directories by the built program and by another one, under a stack of 1 MB, and compares what they say
-# and their status. It notes the seconds and the greatest memory of each, and its own status is 1 where they differ. Use: bench/deep.sh OTHER [PROGRAM]   (PROGRAM: the
-# built one). OTHER is to know the commands `tree`, `recover`, `fsck` and `log` of an image, with the lines and the status of docs/FORMATS.md, but for status 3 at want of memory. The images are
-# made by formula: a chain of 4,096 directories, one of 3,000 with a file of 1,114,112 bytes at its bottom, a cycle of 4,096, a fan of 3,900 files of which each
-# has its links in 195 directories of 896 names, and 256 directories that share their blocks. Not part of the gate.
+# Runs the four commands on images with deep, wide and damaged directories, and a script of a deep tree, by the built program and by another one, under a stack of 1 MB, and
+# compares what they say and their status. It notes the seconds and the greatest memory of each. Its own status is 1 where they differ, or where a command on an image takes
+# more than three times the image and 16 MB. Use: bench/deep.sh OTHER [PROGRAM]   (PROGRAM: the built one). OTHER is to know the commands `tree`, `recover`, `fsck` and `log` of
+# an image and `run` of a script, with the lines and the status of docs/FORMATS.md, but for status 3 at want of memory. The images are made by formula: a chain of 4,096
+# directories, one of 3,000 with a file of 1,114,112 bytes at its bottom, a cycle of 4,096, a fan of 3,900 files of which each has its links in 195 directories of 896 names,
+# and 256 directories that share their blocks; so is the script, which makes a chain of 4,051 directories. Not part of the gate.
 set -eu
 other=${1:?the path of another program is missing}
 top=$(cd "$(dirname "$0")/.." && pwd)
@@ -149,7 +150,7 @@ def small_stack():
 # What a command said, as a sum and a count of lines, its status, its seconds and its memory.
 def run(words):
     begun = time.perf_counter()
-    child = subprocess.Popen(words, stdout=subprocess.PIPE, stderr=subprocess.DEVNULL, preexec_fn=small_stack)
+    child = subprocess.Popen(words, stdout=subprocess.PIPE, stderr=subprocess.DEVNULL, pipesize=1 << 20, preexec_fn=small_stack)
     said, lines = hashlib.sha256(), 0
     while piece := child.stdout.read(1 << 20):
         said.update(piece)
@@ -158,27 +159,45 @@ def run(words):
     return (said.hexdigest(), lines, os.waitstatus_to_exitcode(status)), time.perf_counter() - begun, used.ru_maxrss / 1024
 
 
+# Chains of 30 directories, each with the former ones moved into its lowest.
+def deep_script():
+    lines = ["0 mount", "0 mkdir /r0"]
+    for r in range(1, 136):
+        lines += [f"0 mkdir /r{r}{'/d' * n}" for n in range(30)]
+        lines.append(f"0 rename /r{r - 1} /r{r}{'/d' * 29}/e")
+    return "\n".join(lines) + "\n"
+
+
+# Runs both programs so often with these words, and notes their best times and what differs; whether nothing does, and the memory is at most so many MB.
+def compare(other, program, words, times, most):
+    mine, seconds, memory = min((run([program, *words]) for _ in range(times)), key=lambda r: r[1])
+    theirs, other_seconds, other_memory = min((run([other, *words]) for _ in range(times)), key=lambda r: r[1])
+    print(
+        f"  {words[0]}: status {mine[2]}, {mine[1]} lines, {seconds:.3f} s, {memory:.0f} MB{'' if memory <= most else ' (too much)'};"
+        f" the other {other_seconds:.3f} s, {other_memory:.0f} MB; {seconds / other_seconds:.2f} times"
+        f"{'' if mine == theirs else f'; UNLIKE: status {theirs[2]}, {theirs[1]} lines'}",
+        flush=True,
+    )
+    return mine == theirs and memory <= most
+
+
 def main(folder, other, program):
-    unlike = 0
+    good = True
     for name, make in (("chain", chain_alone), ("bottom", bottom), ("cycle", cycle), ("fan", fan), ("shared", shared)):
         path = f"{folder}/{name}"
         make().write(path)
         size = os.path.getsize(path)
-        most = (3 * size + (16 << 20)) / (1 << 20)
         print(f"{name}: {size} bytes")
         for command in ("fsck", "tree", "recover", "log"):
             words = [command, path] + (["0"] if command == "log" else [])
-            mine, seconds, memory = min((run([program, *words]) for _ in range(3)), key=lambda r: r[1])
-            theirs, other_seconds, other_memory = min((run([other, *words]) for _ in range(3)), key=lambda r: r[1])
-            same = mine == theirs
-            unlike += not same
-            print(
-                f"  {command}: status {mine[2]}, {mine[1]} lines, {seconds:.3f} s, {memory:.0f} MB{'' if memory <= most else ' (too much)'};"
-                f" the other {other_seconds:.3f} s, {other_memory:.0f} MB; {seconds / other_seconds:.2f} times{'' if same else '; UNLIKE: status ' + str(theirs[2]) + ', ' + str(theirs[1]) + ' lines'}",
-                flush=True,
-            )
+            good &= compare(other, program, words, 3, (3 * size + (16 << 20)) / (1 << 20))
         os.remove(path)
-    return 1 if unlike else 0
+    path = f"{folder}/script"
+    with open(path, "w") as out:
+        out.write(deep_script())
+    print("script: 4187 lines")
+    good &= compare(other, program, ["run", path, "--segments", "64"], 1, float("inf"))
+    return 0 if good else 1
 
 
 sys.exit(main(*sys.argv[1:]))

@@ -5,5 +5,4 @@ pub mod Targets
 pub mod Rooms
 pub mod Moves
 pub mod Showing
-pub mod PathTexts
-pub mod EntryLines
+pub mod NodeLines

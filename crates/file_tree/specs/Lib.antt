@@ -7,4 +7,5 @@ pub mod Puts
 pub mod Named
 pub mod Shown
 pub mod Proper
+pub mod Lined
 pub mod CanApply

@@ -1,7 +1,6 @@
--- What a tree holds can be said: targets are targets, and the text of a path is one.
-use Rattle.std.specs.Prelude.{◌≡◌, ℕ, Bool, true, ◌&&◌, ◌==◌, if◌then◌else◌, IsTrue, List, [], ◌∷◌}
-use Rattle.std.specs.List.{list_all, slice_split}
-use Rattle.frang_base.specs.Name.{is_name, is_target}
+-- What a tree holds can be said: targets are targets.
+use Rattle.std.specs.Prelude.{◌≡◌, ℕ, if◌then◌else◌, IsTrue, List, [], ◌∷◌}
+use Rattle.frang_base.specs.Name.{is_target}
 use Rattle.frang_base.specs.declared.said.Said.{Said}
 use Rattle.script_definitions.specs.SaidReading.{IsProperSaid}
 use Rattle.tree_definitions.specs.declared.node.Node.{Node}
@@ -22,11 +21,6 @@ HasTargets tree = count_of odd_target tree ≡ 0
 abbrev pub HasTarget : Node → Type 0
 HasTarget (Link target links) = IsTrue (is_target target)
 HasTarget _ = Unit {0}
-
--- nothing, or `/` before each of some names: the text of a path from the root, whose own is empty
-abbrev pub is_below : List ℕ → Bool
-is_below [] = true
-is_below (b ∷ text) = b == 47 && list_all is_name (slice_split (λ d. d == 47) text)
 
 -- lines that can be said
 abbrev pub AreProper : List Said → Type 0

@@ -1,107 +1,60 @@
-// The lines of a tree.
-ghost use Rattle.std.specs.Prelude.{◌≡◌, ◌++◌, ◌∷◌, [], ℕ, true, IfOk, OnOk, IsTrue};
-ghost use Rattle.frang_base.specs.declared.said.Said.TheVariants.{Node as NodeLine};
-ghost use Rattle.script_definitions.specs.SaidReading.{is_path_text, IsNodeKind, IsProperSaid};
-ghost use Rattle.tree_definitions.specs.TreeLines.{path_text, name_below, lines_from};
-ghost use Rattle.file_tree.specs.Proper.{is_below, AreProper};
+// The lines of a tree, node by node.
+ghost use Rattle.std.specs.Prelude.{◌≡◌, [], IfOk, IsSome};
+ghost use Rattle.std.specs.Option.{option_copied};
+ghost use Rattle.script_definitions.specs.SaidReading.{IsProperSaid};
+ghost use Rattle.tree_definitions.specs.Tree.{FileTree};
+ghost use Rattle.tree_definitions.specs.TreeLines.{tree_lines};
+ghost use Rattle.tree_lines.specs.Waiting.{Says, lines_left, next_birth};
+ghost use Rattle.file_tree.specs.Lined.{IsNext, shown_by, shown_in};
+ghost use Rattle.file_tree.specs.Proper.{AreProper};
 
-use frang_base::{Name, NoMemory, Said, Text};
+use crate::place::ROOT;
+use frang_base::limits::{KIND_DIRECTORY, KIND_FILE, KIND_LINK};
+use frang_base::{NoMemory, Said};
 use std::alloc::Global;
 use std::collections::BTreeMap;
-use tree_definitions::Node;
+use tree_definitions::{Entries, Node};
+use tree_lines::LinesLeft;
 
-#[tactic(auto, using(crate::proofs::PathTexts::path_is_proper))]
-fn path_text(alloc: Global, text: &Text) -> Result<Text, NoMemory>
-    requires { is_below text.now ≡ true }
-    ensures is { IfOk result (λ shown. shown ≡ path_text text.now) }
-    ensures proper { IfOk result (λ shown. IsTrue (is_path_text shown)) }
+// The next node. Those that aren't there have no lines.
+fn next_node<'a>(left: &mut LinesLeft, nodes: &'a BTreeMap<u64, Node>) -> Option<&'a Node>
+    ensures same { lines_left (shown_in nodes.now.entries) left.new ≡ lines_left (shown_in nodes.now.entries) left.old }
+    ensures next { IsNext nodes.now.entries left.new (option_copied result) }
 {
-    match text.as_slice() {
-        [] => Text::of(alloc, b"/"),
-        [_, ..] => text.try_copy(),
+    while let Some(birth) = left.wanted() {
+        match nodes.get(&birth) {
+            Some(node) => return Some(node),
+            None => left.pass(),
+        }
     }
+    None
 }
 
-fn name_below(text: &Text, name: &Name) -> Result<Text, NoMemory>
-    requires { is_below text.now ≡ true }
-    ensures is { IfOk result (λ below. below ≡ name_below text.now name.now) }
-    ensures below { IfOk result (λ below. is_below below ≡ true) }
-{
-    // Its length tells that a name's bytes are those of a name.
-    let _ = name.len();
-    let mut below = text.try_copy()?;
-    below.push(b'/')?;
-    below.append(name.as_slice())?;
-    Ok(below)
-}
-
-// A node's own line.
-fn node_line(alloc: Global, text: &Text, kind: u8, size: u32, links: u32) -> Result<Said, NoMemory>
-    requires path { is_below text.now ≡ true }
-    requires kind { IsNodeKind kind links }
-    ensures is { IfOk result (λ line. line ≡ NodeLine (path_text text.now) kind size links) }
+// The line of the next node, which this is; `none` are no entries.
+fn node_line(left: &mut LinesLeft, node: &Node, none: &Entries) -> Result<Said, NoMemory>
+    requires some { IsSome (next_birth left.old.nodes) }
+    requires none { none.now ≡ [] }
+    ensures is { IfOk result (Says (shown_by node.now) left.old left.new) }
     ensures proper { IfOk result IsProperSaid }
 {
-    Ok(Said::Node {
-        path: path_text(alloc, text)?,
-        kind,
-        size,
-        links,
-    })
+    match node {
+        Node::File { cells, links, .. } => left.show(KIND_FILE, cells.len() as u32, *links, none),
+        Node::Link { target, .. } => left.show(KIND_LINK, target.len() as u32, 0, none),
+        Node::Dir { entries, .. } => left.show(KIND_DIRECTORY, entries.len() as u32, 0, entries),
+    }
 }
 
-// Adds a node's own line.
-#[tactic(auto, using(crate::proofs::PathTexts::proper_push))]
-fn push_line(
-    alloc: Global,
-    text: &Text,
-    kind: u8,
-    size: u32,
-    links: u32,
-    lines: &mut Vec<Said>,
-) -> Result<(), NoMemory>
-    requires path { is_below text.now ≡ true }
-    requires kind { IsNodeKind kind links }
-    requires proper { AreProper lines.old.items }
-    ensures is { OnOk result (lines.new.items ≡ lines.old.items ++ NodeLine (path_text text.now) kind size links ∷ []) }
-    ensures proper { OnOk result (AreProper lines.new.items) }
+/// The lines of nodes, from the root: each directory before its entries, entries in order of their bytes.
+pub fn lines_of(alloc: Global, nodes: &BTreeMap<u64, Node>) -> Result<Vec<Said>, NoMemory>
+    ensures is { IfOk result (λ lines. (tree : FileTree) → tree.nodes ≡ nodes.now.entries → lines.items ≡ tree_lines tree) }
+    ensures proper { IfOk result (λ lines. AreProper lines.items) }
 {
-    let line = node_line(alloc, text, kind, size, links)?;
-    lines.push(line)?;
-    Ok(())
-}
-
-/// Adds the lines from a node on, so many levels deep.
-pub fn lines_from(
-    alloc: Global,
-    nodes: &BTreeMap<u64, Node>,
-    depth: usize,
-    text: &Text,
-    birth: u64,
-    lines: &mut Vec<Said>,
-) -> Result<(), NoMemory>
-    requires path { is_below text.now ≡ true }
-    requires proper { AreProper lines.old.items }
-    ensures is { OnOk result ((segments : ℕ) → lines.new.items ≡ lines.old.items ++ lines_from depth (record { segments = segments; nodes = nodes.now.entries }) text.now birth) }
-    ensures proper { OnOk result (AreProper lines.new.items) }
-{
-    if depth == 0 {
-        return Ok(());
+    let none = Entries::new(alloc);
+    let mut lines = Vec::new(alloc);
+    let mut left = LinesLeft::of(alloc, ROOT, nodes.len());
+    while let Some(node) = next_node(&mut left, nodes) {
+        let line = node_line(&mut left, node, &none)?;
+        lines.push(line)?;
     }
-    let entries = match nodes.get(&birth) {
-        None => return Ok(()),
-        Some(Node::File { cells, links, .. }) => {
-            return push_line(alloc, text, 1, cells.len() as u32, *links, lines);
-        }
-        Some(Node::Link { target, .. }) => {
-            return push_line(alloc, text, 3, target.len() as u32, 0, lines);
-        }
-        Some(Node::Dir { entries, .. }) => entries,
-    };
-    push_line(alloc, text, 2, entries.len() as u32, 0, lines)?;
-    for (name, child) in entries.as_map() {
-        let below = name_below(text, name)?;
-        lines_from(alloc, nodes, depth - 1, &below, *child, lines)?;
-    }
-    Ok(())
+    Ok(lines)
 }

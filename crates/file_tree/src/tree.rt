@@ -8,7 +8,7 @@ ghost use Rattle.tree_edits.specs.Edits.{without_name, with_name, with_blocks, w
 ghost use Rattle.tree_edits.specs.Written.{cells_of};
 ghost use Rattle.file_tree.specs.Proper.{HasTarget, HasTargets, AreProper};
 
-use crate::lines::lines_from;
+use crate::lines::lines_of;
 use crate::place::ROOT;
 use frang_base::limits::{INODE_BLOCKS_MAX, SEGMENT_BLOCKS, SEGMENT_INODES, SEGMENTS_MAX};
 use frang_base::{Name, NoMemory, Said, Text};
@@ -301,17 +301,7 @@ impl Tree {
         ensures is { IfOk result (λ lines. lines.items ≡ tree_lines self.now) }
         ensures proper { IfOk result (λ lines. AreProper lines.items) }
     {
-        let mut lines = Vec::new(self.alloc);
-        let root = Text::new(self.alloc);
-        lines_from(
-            self.alloc,
-            &self.nodes,
-            self.nodes.len(),
-            &root,
-            ROOT,
-            &mut lines,
-        )?;
-        Ok(lines)
+        lines_of(self.alloc, &self.nodes)
     }
 
     /// Another tree, the same.

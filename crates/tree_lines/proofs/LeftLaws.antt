@@ -4,13 +4,12 @@ use Rattle.std.specs.List.{flat_map}
 use Rattle.std.proofs.lemmas.List.{reverse-append, reverse-reverse, take-take}
 use Rattle.std.proofs.lemmas.Grind.{flat_map-append}
 use Rattle.std.proofs.Math.Seq.{take-length}
-use Rattle.frang_base.specs.declared.said.Said.{Said}
 use Rattle.frang_base.specs.declared.said.Said.TheVariants as said
 use Rattle.tree_definitions.specs.Entries.{Entries}
 use Rattle.tree_definitions.specs.TreeLines.{name_below, path_text}
 use Rattle.tree_lines.specs.declared.left.Left.{Left}
 use Rattle.tree_lines.specs.Shown.{Shown, lines_by, lines_shown}
-use Rattle.tree_lines.specs.Waiting.{AreNested, IsAt, IsPathOf, Keeps, Passes, Says, Waiting, child, children, lines_left, lines_of, next_birth, opened, text_of}
+use Rattle.tree_lines.specs.Waiting.{AreNested, IsAt, IsPathOf, Keeps, Passes, Says, Waiting, child, children, lines_of, next_birth, opened, text_of}
 
 pub flat_map_same : {X A : Type 0} (f g : X → List A) (xs : List X) → ((x : X) → f x ≡ g x) → flat_map f xs ≡ flat_map g xs
 flat_map_same f g [] same = refl
@@ -27,7 +26,7 @@ none_by nodes (suc n) text birth none = ap (λ o. lines_shown text o (λ e. line
 
 -- ---- texts that begin alike
 
-shorter : (i n : ℕ) (new text : List ℕ) → i ≤ n → take n new ≡ take n text → take i new ≡ take i text
+pub shorter : (i n : ℕ) (new text : List ℕ) → i ≤ n → take n new ≡ take n text → take i new ≡ take i text
 shorter i n new text le e = sym (take-take i n new le) ∙ ap (take i) e ∙ take-take i n text le
 
 same_lines : (nodes : ℕ → Option Shown) (ls : List Left) (n : ℕ) (new text : List ℕ) → AreNested n ls → take n new ≡ take n text → flat_map (lines_of nodes new) ls ≡ flat_map (lines_of nodes text) ls
@@ -62,11 +61,13 @@ kept nodes l ls n new text is nested e =
     let own : AreNested l.above (l ∷ ls) = (let both = subst (AreNested n) is nested in (le_refl l.above, both.1, both.2)) in
     record { nodes = refl; lines = λ at. ap (flat_map (lines_of at new)) is ∙ same_lines at (l ∷ ls) l.above new text own e ∙ ap (flat_map (lines_of at text)) (sym is) }
 
+pub entered_nested : (nodes : List Left) (l : Left) (ls : List Left) (n : ℕ) (new : List ℕ) → nodes ≡ l ∷ ls → AreNested n nodes → l.above ≤ length new → AreNested (length new) nodes
+entered_nested nodes l ls n new is nested long = let both = subst (AreNested n) is nested in subst (AreNested (length new)) (sym is) (long, both.1, both.2)
+
 pub entered : (nodes : List Left) (l : Left) (ls : List Left) (n : ℕ) (new text : List ℕ) → nodes ≡ l ∷ ls → AreNested n nodes → take l.above new ≡ take l.above text → l.above ≤ length new
     → new ≡ text_of (take l.above text) l.name → IsAt (record { text = new; nodes = nodes })
 entered nodes l ls n new text is nested e long path =
-    let both = subst (AreNested n) is nested in
-    subst (λ ns. IsPathOf new ns × AreNested (length new) ns) (sym is) (path ∙ ap (λ t. text_of t l.name) (sym e), (long, both.1, both.2))
+    (subst (IsPathOf new) (sym is) (path ∙ ap (λ t. text_of t l.name) (sym e)), entered_nested nodes l ls n new is nested long)
 
 -- ---- a node's entries in its place
 

@@ -1,1 +1,3 @@
 pub mod LeftLaws
+pub mod PathTexts
+pub mod BelowLaws

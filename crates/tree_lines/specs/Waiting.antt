@@ -1,10 +1,11 @@
 -- What is left of the lines of a tree.
-use Rattle.std.specs.Prelude.{◌≡◌, ◌≤◌, ◌<◌, ℕ, zero, suc, ◌-◌, Option, Some, None, List, [], ◌∷◌, ◌++◌, length, map, take}
-use Rattle.std.specs.List.{flat_map}
+use Rattle.std.specs.Prelude.{◌≡◌, ◌≤◌, ◌<◌, ℕ, zero, suc, ◌-◌, true, Option, Some, None, List, [], ◌∷◌, ◌++◌, length, map, take}
+use Rattle.std.specs.List.{flat_map, list_all}
 use Rattle.frang_base.specs.declared.said.Said.{Said}
 use Rattle.tree_definitions.specs.Entries.{Entries}
 use Rattle.tree_definitions.specs.TreeLines.{name_below}
 use Rattle.tree_lines.specs.declared.left.Left.{Left}
+use Rattle.tree_lines.specs.Below.{is_below, is_entry_named, is_named}
 use Rattle.tree_lines.specs.Shown.{Shown, lines_by}
 
 -- the text of a path, and the nodes that are left, the next one first, each below a part of that path
@@ -42,6 +43,16 @@ children above (suc depth) entries = map (child above (suc depth)) entries
 abbrev pub AreNested : ℕ → List Left → Type 0
 AreNested long [] = Unit {0}
 AreNested long (l ∷ ls) = (l.above ≤ long) × (0 < l.depth) × AreNested l.above ls
+
+-- each node has a name, or none, below the text of a path
+abbrev pub AreBelow : List ℕ → List Left → Type 0
+AreBelow text [] = Unit {0}
+AreBelow text (l ∷ ls) = (is_below (take l.above text) ≡ true) × (is_named l.name ≡ true) × AreBelow text ls
+
+-- the names of entries are names, where a level is left for them
+abbrev pub AreNamed : ℕ → Entries → Type 0
+AreNamed zero entries = Unit {0}
+AreNamed (suc depth) entries = list_all is_entry_named entries ≡ true
 
 -- the text is that of the next node's path
 abbrev pub IsPathOf : List ℕ → List Left → Type 0

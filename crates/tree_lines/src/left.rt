@@ -1,9 +1,11 @@
 // What is left of the lines of a tree.
-ghost use Rattle.std.specs.Prelude.{◌≡◌, ◌≤◌, ◌<◌, ℕ, [], Option, length, reverse, take, IfOk, IsSome, OnErr, OnOk};
+ghost use Rattle.std.specs.Prelude.{◌≡◌, ◌≤◌, ◌<◌, ℕ, [], true, Option, length, reverse, take, IfOk, IsSome, IsTrue, OnErr, OnOk};
 ghost use Rattle.frang_base.specs.declared.said.Said.TheVariants.{Node};
 ghost use Rattle.tree_definitions.specs.TreeLines.{path_text};
+ghost use Rattle.script_definitions.specs.SaidReading.{is_path_text, IsNodeKind, IsProperSaid};
+ghost use Rattle.tree_lines.specs.Below.{is_below};
 ghost use Rattle.tree_lines.specs.Shown.{Shown, lines_by};
-ghost use Rattle.tree_lines.specs.Waiting.{IsAt, Keeps, Passes, Says, children, lines_left, next_birth, opened, text_of};
+ghost use Rattle.tree_lines.specs.Waiting.{AreNamed, IsAt, Keeps, Passes, Says, children, lines_left, next_birth, opened, text_of};
 
 use frang_base::{Name, NoMemory, Said, Text};
 use std::alloc::Global;
@@ -33,13 +35,13 @@ pub struct LinesLeft {
 
 impl Model for LinesLeft {
     ghost use Rattle.std.specs.Prelude.{◌≡◌, ◌++◌, [], None, length, option_to_list, reverse};
-    ghost use Rattle.tree_lines.specs.Waiting.{AreNested, Waiting};
+    ghost use Rattle.tree_lines.specs.Waiting.{AreBelow, AreNested, Waiting};
 
     ghost Value = { Waiting };
 
     ghost view = { λ w. record { text = w.text.items; nodes = option_to_list w.here ++ reverse w.left.items } };
 
-    ghost invariant = { λ w. AreNested (length w.text.items) (option_to_list w.here ++ reverse w.left.items) × (w.here ≡ None → w.left.items ≡ []) };
+    ghost invariant = { λ w. AreNested (length w.text.items) (option_to_list w.here ++ reverse w.left.items) × (w.here ≡ None → w.left.items ≡ []) × AreBelow w.text.items (option_to_list w.here ++ reverse w.left.items) };
 }
 
 // Makes a text that of the path of a name below its first part.
@@ -61,8 +63,11 @@ fn go_below(text: &mut Vec<u8>, above: usize, name: &Option<Name>) -> Result<(),
 }
 
 // The text of a path, which is `/` at the root.
+#[tactic(auto, using(crate::proofs::PathTexts::path_is_proper))]
 fn path_text(alloc: Global, text: &[u8]) -> Result<Text, NoMemory>
-    ensures { IfOk result (λ shown. shown ≡ path_text text.now) }
+    requires { is_below text.now ≡ true }
+    ensures is { IfOk result (λ shown. shown ≡ path_text text.now) }
+    ensures proper { IfOk result (λ shown. IsTrue (is_path_text shown)) }
 {
     match text {
         [] => Text::of(alloc, b"/"),
@@ -77,13 +82,16 @@ fn children(
     above: usize,
     depth: usize,
 ) -> Result<Vec<Left>, NoMemory>
-    ensures { IfOk result (λ more. more.items ≡ reverse (children above depth entries.now)) }
+    ensures are { IfOk result (λ more. more.items ≡ reverse (children above depth entries.now)) }
+    ensures named { IfOk result (λ more. AreNamed depth entries.now) }
 {
     let mut more = Vec::new(alloc);
     if depth == 0 {
         return Ok(more);
     }
     for (name, birth) in entries.as_map() {
+        // Its length tells that a name's bytes are those of a name.
+        let _ = name.len();
         let name = Some(name.copy());
         more.push(Left {
             name,
@@ -165,8 +173,8 @@ impl LinesLeft {
         Ok(())
     }
 
-    /// The line of the node that is wanted, by its kind, size and links, and by its entries, which come next; only a directory has some. After
-    /// `NoMemory` the same node is wanted, and the same lines are left.
+    /// The line of the node that is wanted, by its kind, size and links, and by its entries, which come next; only a directory has some. It can be
+    /// said, where kind and links are those of a node. After `NoMemory` the same node is wanted, and the same lines are left.
     pub fn show(
         &mut self,
         kind: u8,
@@ -176,6 +184,7 @@ impl LinesLeft {
     ) -> Result<Said, NoMemory>
         requires { IsSome (next_birth self.old.nodes) }
         ensures ok { IfOk result (Says (record { kind = kind; size = size; links = links; entries = entries.now }) self.old self.new) }
+        ensures proper { IfOk result (λ line. IsNodeKind kind links → IsProperSaid line) }
         ensures err { OnErr result (Keeps self.old self.new) }
     {
         self.enter()?;

@@ -1,5 +1,5 @@
 -- The last of those that are left comes next.
-use Rattle.std.proofs.Common.{◌≡◌, ◌++◌, option_to_list, reverse, subst}
+use Rattle.std.proofs.Common.{◌++◌, option_to_list, reverse, subst}
 use Rattle.tree_lines.specs.Waiting.{Passes}
 use Rattle.tree_lines.proofs.LeftLaws.{passed}
 use Rattle.tree_lines.proofs.left.LinesLeft.pass.Goals as goal

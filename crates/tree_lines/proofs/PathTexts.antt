@@ -1,16 +1,15 @@
--- The text of a path from the root down is one, and lines that can be said stay so when one more is.
-use Rattle.std.proofs.Common.{◌≡◌, ℕ, Bool, true, false, not, ◌&&◌, cond, nat_eq, nat_lt, IsTrue, List, [], ◌∷◌, ◌++◌, sym, refl, ◌∙◌, ap, subst}
+-- The text of a path from the root down is one, with a name more too.
+use Rattle.std.proofs.Common.{◌≡◌, ℕ, Bool, true, false, not, ◌&&◌, cond, nat_eq, nat_lt, IsTrue, List, [], ◌∷◌, ◌++◌, refl, ◌∙◌, ap}
 use Rattle.std.specs.List.{All, list_all, slice_split, onto_first}
 use Rattle.std.proofs.lemmas.Bool.{and_parts, and_from, not-true}
 use Rattle.std.proofs.lemmas.List.Folds.{list_all-append}
 use Rattle.std.proofs.lemmas.List.Elements.{All-nil, All-cons}
 use Rattle.std.proofs.lemmas.List.Splits.{slice_split_none}
 use Rattle.frang_base.specs.Name.{is_name, is_name_byte}
-use Rattle.frang_base.specs.declared.said.Said.{Said}
-use Rattle.script_definitions.specs.SaidReading.{is_path_text, IsProperSaid}
+use Rattle.script_definitions.specs.SaidReading.{is_path_text}
 use Rattle.script_definitions.proofs.SaidWritten.{name_bytes}
 use Rattle.tree_definitions.specs.TreeLines.{path_text, name_below}
-use Rattle.file_tree.specs.Proper.{is_below, AreProper}
+use Rattle.tree_lines.specs.Below.{is_below}
 
 -- parts are never none
 parts_front : {X : Type 0} (p : X → Bool) (x : X) (t more : List X) → onto_first x (slice_split p t ++ slice_split p more) ≡ onto_first x (slice_split p t) ++ slice_split p more
@@ -56,10 +55,3 @@ below_name (b ∷ text) name h n =
     ∙ list_all-append is_name (slice_split (λ d. nat_eq d 47) text) (name ∷ [])
     ∙ and_from (list_all is_name (slice_split (λ d. nat_eq d 47) text)) (is_name name && true) own.1 (ap (λ a. a && true) n) in
     and_from (nat_eq b 47) (list_all is_name (slice_split (λ d. nat_eq d 47) (text ++ 47 ∷ name))) own.0 parts
-
-pub proper_push : (lines more : List Said) (line : Said) → more ≡ lines ++ line ∷ [] → AreProper lines → IsProperSaid line → AreProper more
-proper_push lines more line e proper own = subst AreProper (sym e) (go lines proper)
-  where
-    go : (ls : List Said) → AreProper ls → AreProper (ls ++ line ∷ [])
-    go [] h = (own, tt)
-    go (l ∷ ls) h = (h.0, go ls h.1)
