@@ -21,6 +21,13 @@ entries_same [] (f ∷ fs) = refl
 entries_same (e ∷ es) [] = refl
 entries_same (e ∷ es) (f ∷ fs) = ap (λ b. (b && nat_eq e.1 f.1) && pointwise (λ e f. eq_by_cmp (slice_cmp nat_cmp) e.0 f.0 && nat_eq e.1 f.1) es fs) (is_eq-slice_cmp e.0 f.0) ∙ ap (λ rest. (pointwise nat_eq e.0 f.0 && nat_eq e.1 f.1) && rest) (entries_same es fs)
 
+pub names_same : (names others : List (List ℕ)) → pointwise (eq_by_cmp (slice_cmp nat_cmp)) names others ≡ pointwise (pointwise nat_eq) names others
+names_same [] [] = refl
+names_same [] (other ∷ others) = refl
+names_same (name ∷ names) [] = refl
+names_same (name ∷ names) (other ∷ others) =
+    ap (λ b. b && pointwise (eq_by_cmp (slice_cmp nat_cmp)) names others) (is_eq-slice_cmp name other) ∙ ap (λ rest. pointwise nat_eq name other && rest) (names_same names others)
+
 -- cells without their bytes are the same where they are as many
 shapes_same : (cs ds : List Cell) → pointwise same_cell (map (λ c. Doubtful) cs) (map (λ c. Doubtful) ds) ≡ nat_eq (length cs) (length ds)
 shapes_same [] [] = refl

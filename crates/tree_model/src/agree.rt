@@ -9,13 +9,7 @@ use reply_text::reply_word;
 fn same_names(names: &[Name], others: &[Name]) -> bool
     ensures { result ≡ pointwise (pointwise nat_eq) names.now others.now }
 {
-    match (names, others) {
-        ([], []) => true,
-        ([name, names @ ..], [other, others @ ..]) => {
-            name.as_slice() == other.as_slice() && same_names(names, others)
-        }
-        ([], [_, ..]) | ([_, ..], []) => false,
-    }
+    names == others
 }
 
 fn shown_is(bytes: &Text, reply: &Reply) -> bool
