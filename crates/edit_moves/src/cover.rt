@@ -12,7 +12,7 @@ use dir_lookup::Hand;
 use frang_base::limits::{SEGMENT_BLOCKS, SEGMENT_INODES};
 use frang_base::{Held, LockId, Sector};
 use frang_layout::{Region, region_of};
-use meta_version::Sectors;
+use usable_sectors::Usable;
 
 /// The lock that covers a sector which a line needs or sets, once it has looked at the inodes of these nodes, in that order: the segment's own; of an inode that
 /// a held segment has free, that segment, else the inode's node; of a block the first of these nodes whose inode is cached and has the block, and where none has
@@ -45,7 +45,7 @@ fn inode_cover(held: &Held, inode: u32) -> LockId
 
 /// The lock that covers the sectors of a small block which a line needs or sets: the first of these nodes whose inode is cached and has the block, and where
 /// none has it the segment of its bit.
-pub fn small_cover_among(sectors: &Sectors, nodes: &[u32], block: u32) -> LockId
+pub fn small_cover_among(sectors: &Usable, nodes: &[u32], block: u32) -> LockId
     ensures { result ≡ covers.node_or_segment (covers.small_owner_among sectors.now.entries nodes.now block) (block / SEGMENT_BLOCKS) }
 {
     let owner = small_owner_among(sectors, nodes, block);
@@ -53,7 +53,7 @@ pub fn small_cover_among(sectors: &Sectors, nodes: &[u32], block: u32) -> LockId
 }
 
 /// The same of a large block.
-pub fn large_cover_among(sectors: &Sectors, nodes: &[u32], block: u32) -> LockId
+pub fn large_cover_among(sectors: &Usable, nodes: &[u32], block: u32) -> LockId
     ensures { result ≡ covers.node_or_segment (covers.large_owner_among sectors.now.entries nodes.now block) block }
 {
     let owner = large_owner_among(sectors, nodes, block);

@@ -5,10 +5,10 @@ ghost use Rattle.disk_definitions.specs.CoversAtHand as covers;
 
 use crate::{has_large, has_small};
 use dir_lookup::{Looked, inode_at};
-use meta_version::Sectors;
+use usable_sectors::Usable;
 
 /// The first of these nodes whose inode is cached and has this small block.
-pub(crate) fn small_owner_among(sectors: &Sectors, nodes: &[u32], block: u32) -> Option<u32>
+pub(crate) fn small_owner_among(sectors: &Usable, nodes: &[u32], block: u32) -> Option<u32>
     ensures { result ≡ covers.small_owner_among sectors.now.entries nodes.now block }
 {
     for node in nodes {
@@ -21,7 +21,7 @@ pub(crate) fn small_owner_among(sectors: &Sectors, nodes: &[u32], block: u32) ->
 }
 
 /// Whether this inode is cached, in use, and has the small block.
-pub fn owns_small(sectors: &Sectors, number: u32, block: u32) -> bool
+pub fn owns_small(sectors: &Usable, number: u32, block: u32) -> bool
     ensures { result ≡ covers.has_small block (inode_at_hand sectors.now.entries number) }
 {
     let mut looked = Looked::unasked();
@@ -33,7 +33,7 @@ pub fn owns_small(sectors: &Sectors, number: u32, block: u32) -> bool
 }
 
 /// The first of these nodes whose inode is cached and has this large block.
-pub(crate) fn large_owner_among(sectors: &Sectors, nodes: &[u32], block: u32) -> Option<u32>
+pub(crate) fn large_owner_among(sectors: &Usable, nodes: &[u32], block: u32) -> Option<u32>
     ensures { result ≡ covers.large_owner_among sectors.now.entries nodes.now block }
 {
     for node in nodes {
@@ -45,7 +45,7 @@ pub(crate) fn large_owner_among(sectors: &Sectors, nodes: &[u32], block: u32) ->
     None
 }
 
-fn owns_large(sectors: &Sectors, number: u32, block: u32) -> bool
+fn owns_large(sectors: &Usable, number: u32, block: u32) -> bool
     ensures { result ≡ covers.has_large block (inode_at_hand sectors.now.entries number) }
 {
     let mut looked = Looked::unasked();

@@ -12,8 +12,8 @@ use dir_lookup::Hand;
 use frang_base::limits::{SECTOR_BYTES, SEGMENTS_MAX};
 use frang_base::{Bitmap, Block, Held, Sector};
 use frang_layout::BITMAPS_FROM;
-use meta_version::Sectors;
 use sector_bytes::zero_block;
+use usable_sectors::Usable;
 
 /// The block of a sector: that of a held segment by its bitmap, else the cached one, else zeros.
 pub(crate) fn block_at_hand(hand: &Hand, sector: Sector) -> Block
@@ -50,7 +50,7 @@ fn segment_block(bitmap: &Bitmap) -> Block
 }
 
 // The cached block, or zeros.
-fn cached_block(sectors: &Sectors, sector: Sector) -> Block
+fn cached_block(sectors: &Usable, sector: Sector) -> Block
     ensures { result ≡ block_or_zeros (value_at sectors.now.entries sector.0) }
 {
     match sectors.get(sector) {

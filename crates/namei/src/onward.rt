@@ -14,7 +14,7 @@ use dir_lookup::{Looked, Refusal, Spot, step};
 use disk_definitions::DirEntry;
 use frang_base::limits::{KIND_DIRECTORY, KIND_LINK};
 use frang_base::{Name, Sector};
-use meta_version::Sectors;
+use usable_sectors::Usable;
 
 // How a walk goes on: a sector is needed first; the node is no directory, so that nothing is looked up in it; or a name was looked up, and it ends there,
 // with the kind of the node that is there, goes into a directory, follows a link, or is refused.
@@ -30,7 +30,7 @@ pub(crate) enum Next {
 
 // At a name of a directory, before the names that are left.
 pub(crate) fn next_at(
-    sectors: &Sectors,
+    sectors: &Usable,
     last: bool,
     dir: u32,
     name: &Name,

@@ -15,8 +15,8 @@ use crate::targets::{Way, way_at};
 use dir_lookup::{Looked, Refusal};
 use frang_base::limits::{KIND_DIRECTORY, LINKS_FOLLOWED_MAX, ROOT_INODE};
 use frang_base::{Name, NoMemory, Path, Sector};
-use meta_version::Sectors;
 use std::alloc::Global;
+use usable_sectors::Usable;
 
 /// Where a path leads over the sectors that are cached, once links are followed.
 #[derive(Drop)]
@@ -41,7 +41,7 @@ pub fn resolve(
     alloc: Global,
     path: &Path,
     last: bool,
-    sectors: &Sectors,
+    sectors: &Usable,
     root: u32,
 ) -> Result<Resolved, NoMemory>
     requires { root ≡ 0 }
@@ -56,7 +56,7 @@ fn from_root(
     alloc: Global,
     path: &Path,
     last: bool,
-    sectors: &Sectors,
+    sectors: &Usable,
     root: u32,
 ) -> Result<Resolved, NoMemory>
     requires { root ≡ 0 }
@@ -94,7 +94,7 @@ pub fn walk_links(
     alloc: Global,
     path: &Path,
     last: bool,
-    sectors: &Sectors,
+    sectors: &Usable,
     root: u32,
     looked: &mut Looked,
 ) -> Result<Walked, NoMemory>
@@ -118,7 +118,7 @@ pub fn walk_links(
 #[derive(Clone, Copy)]
 struct Ground<'a> {
     alloc: Global,
-    sectors: &'a Sectors,
+    sectors: &'a Usable<'a>,
     last: bool,
 }
 

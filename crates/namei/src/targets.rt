@@ -17,8 +17,8 @@ use dir_lookup::{Looked, inode_at};
 use disk_definitions::Inode;
 use frang_base::limits::KIND_LINK;
 use frang_base::{Name, NoMemory, Path, PathFault, Sector, Text, parse_path};
-use meta_version::Sectors;
 use std::alloc::Global;
+use usable_sectors::Usable;
 
 // Where a link leads: a sector is needed first, its target is no path, or these names lead on from the root, or from the directory that
 // holds the link.
@@ -33,7 +33,7 @@ pub(crate) enum Way {
 // The way of a link, before the names that are left.
 pub(crate) fn way_at(
     alloc: Global,
-    sectors: &Sectors,
+    sectors: &Usable,
     link: u32,
     names: &[Name],
     looked: &mut Looked,

@@ -10,7 +10,7 @@ ghost use Rattle.namei.specs.Steps.{step_at, step_of};
 
 use dir_lookup::{Looked, Need, Refusal, Spot, walk_spot};
 use frang_base::{Path, Sector};
-use meta_version::Sectors;
+use usable_sectors::Usable;
 
 /// Where a walk leads over the sectors that are cached.
 #[derive(Clone, Copy, PartialEq, Eq)]
@@ -28,7 +28,7 @@ pub enum Step {
 /// The walk of a path from the root, whose inode is 0. It takes no memory. Over every disk that stands for a tree and of which the sectors are, it
 /// leads where the tree's walk does: `Need` names the first sector that it looks at and that isn't cached, `At` the inode of the node that the path
 /// names, `NoEnt` and `NotDir` come exactly where the tree has them.
-pub fn walk(path: &Path, sectors: &Sectors, root: u32) -> Step
+pub fn walk(path: &Path, sectors: &Usable, root: u32) -> Step
     requires { root ≡ 0 }
     ensures is { (held : Segments) → result ≡ step_of (reading (walks.walk path.now) sectors.now.entries held) }
     ensures leads { LeadsOverDisks path.now sectors.now.entries result }
@@ -37,7 +37,7 @@ pub fn walk(path: &Path, sectors: &Sectors, root: u32) -> Step
 }
 
 // The walk as the definitions have it.
-fn walked_step(path: &Path, sectors: &Sectors, root: u32) -> Step
+fn walked_step(path: &Path, sectors: &Usable, root: u32) -> Step
     requires { root ≡ 0 }
     ensures { (held : Segments) → result ≡ step_of (reading (walks.walk path.now) sectors.now.entries held) }
 {
@@ -48,7 +48,7 @@ fn walked_step(path: &Path, sectors: &Sectors, root: u32) -> Step
 }
 
 // The spot to which it leads; what it looked at isn't asked for.
-fn spot_at(path: &Path, sectors: &Sectors) -> Result<Spot, Need>
+fn spot_at(path: &Path, sectors: &Usable) -> Result<Spot, Need>
     ensures { (held : Segments) → read_of spot_of result ≡ reading (bind (walks.walk path.now) (λ w. Got w.spot)) sectors.now.entries held }
 {
     let mut looked = Looked::unasked();

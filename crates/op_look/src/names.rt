@@ -15,15 +15,15 @@ use dir_lookup::{Looked, entry_at, name_of, part_at};
 use disk_definitions::{DirEntry, DirSector, Inode};
 use frang_base::limits::{SECTOR_ENTRIES, SMALL_BLOCK_SECTORS};
 use frang_base::{Name, NameList, NoMemory};
-use meta_version::Sectors;
 use plan_steps::Stop;
 use std::alloc::Global;
 use std::collections::BTreeMap;
+use usable_sectors::Usable;
 
 /// The names in a directory, in order of their bytes. Its sectors come to `looked`.
 pub(crate) fn names_in(
     alloc: Global,
-    sectors: &Sectors,
+    sectors: &Usable,
     directory: &Inode,
     looked: &mut Looked,
 ) -> Result<NameList, Stop>

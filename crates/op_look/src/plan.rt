@@ -18,14 +18,15 @@ use dir_lookup::Looked;
 use disk_definitions::Inode;
 use frang_base::limits::{KIND_DIRECTORY, KIND_FILE, KIND_LINK, RUN_TICKS_END};
 use frang_base::{Changes, NoMemory, Op, Path, Reply, Text};
-use meta_version::{ByteWrites, Plan, SectorList, Sectors};
+use meta_version::{ByteWrites, Plan, SectorList};
 use plan_steps::{Stop, inode_of, target_of};
 use std::alloc::Global;
+use usable_sectors::Usable;
 
 /// The plan of an operation that only looks: stat, list, readlink or time. It is done with the reply, and changes nothing; or a sector is
 /// needed, the first that is looked at and isn't cached. Whatever segments are held, over every disk that stands for a tree it answers as the
 /// tree does. Its one refusal is want of memory.
-pub fn plan_look(alloc: Global, op: &Op, sectors: &Sectors) -> Result<Plan, NoMemory>
+pub fn plan_look(alloc: Global, op: &Op, sectors: &Usable) -> Result<Plan, NoMemory>
     requires { IsLook op.now }
     ensures is { (h : Hand) (birth when : ℕ) (held : Segments) → IfOk result (λ plan. plan ≡ planned sectors.now.entries held (reading (plan_of h birth when op.now) sectors.now.entries held)) }
     ensures stands { (birth when : ℕ) (held : Segments) (all : Bool) → birth < 2 ^ 64 → when < 2 ^ 64 → IfOk result (StandsOverDisks op.now birth when sectors.now.entries held all) }
@@ -35,7 +36,7 @@ pub fn plan_look(alloc: Global, op: &Op, sectors: &Sectors) -> Result<Plan, NoMe
 }
 
 // The plan, as the look ended.
-fn ended_look(alloc: Global, op: &Op, sectors: &Sectors) -> Result<Plan, NoMemory>
+fn ended_look(alloc: Global, op: &Op, sectors: &Usable) -> Result<Plan, NoMemory>
     requires { IsLook op.now }
     ensures { (h : Hand) (birth when : ℕ) (held : Segments) → IfOk result (λ plan. plan ≡ planned sectors.now.entries held (reading (plan_of h birth when op.now) sectors.now.entries held)) }
 {
@@ -50,7 +51,7 @@ fn ended_look(alloc: Global, op: &Op, sectors: &Sectors) -> Result<Plan, NoMemor
 }
 
 // How it ends; what it looks at isn't asked for.
-fn said(alloc: Global, op: &Op, sectors: &Sectors) -> Result<Reply, Stop>
+fn said(alloc: Global, op: &Op, sectors: &Usable) -> Result<Reply, Stop>
     requires { IsLook op.now }
     ensures { (h : Hand) (birth when : ℕ) (held : Segments) → Says (reading (plan_of h birth when op.now) sectors.now.entries held) result }
 {
@@ -72,7 +73,7 @@ fn done(alloc: Global, reply: Reply) -> Plan
 
 /// How an operation that only looks ends: with its reply, or with what it needs or is refused with. What it looked at comes to
 /// `looked`. Its other refusal is want of memory.
-pub fn look(alloc: Global, op: &Op, sectors: &Sectors, looked: &mut Looked) -> Result<Reply, Stop>
+pub fn look(alloc: Global, op: &Op, sectors: &Usable, looked: &mut Looked) -> Result<Reply, Stop>
     requires { IsLook op.now }
     ensures says { (h : Hand) (birth when : ℕ) (held : Segments) → Says (reading (plan_of h birth when op.now) sectors.now.entries held) result }
     ensures looks { (h : Hand) (birth when : ℕ) (held : Segments) → UnlessNoMemory result (Looks sectors.now.entries held looked.old looked.new (plan_of h birth when op.now)) }
@@ -86,7 +87,7 @@ pub fn look(alloc: Global, op: &Op, sectors: &Sectors, looked: &mut Looked) -> R
     }
 }
 
-fn describe(sectors: &Sectors, path: &Path, looked: &mut Looked) -> Result<Reply, Stop>
+fn describe(sectors: &Usable, path: &Path, looked: &mut Looked) -> Result<Reply, Stop>
     ensures says { (held : Segments) → Says (reading (plan_described path.now) sectors.now.entries held) result }
     ensures looks { (held : Segments) → UnlessNoMemory result (Looks sectors.now.entries held looked.old looked.new (plan_described path.now)) }
 {
@@ -111,7 +112,7 @@ fn described(inode: &Inode) -> Reply
     }
 }
 
-fn list(alloc: Global, sectors: &Sectors, path: &Path, looked: &mut Looked) -> Result<Reply, Stop>
+fn list(alloc: Global, sectors: &Usable, path: &Path, looked: &mut Looked) -> Result<Reply, Stop>
     ensures says { (held : Segments) → Says (reading (plan_listed path.now) sectors.now.entries held) result }
     ensures looks { (held : Segments) → UnlessNoMemory result (Looks sectors.now.entries held looked.old looked.new (plan_listed path.now)) }
 {
@@ -126,7 +127,7 @@ fn list(alloc: Global, sectors: &Sectors, path: &Path, looked: &mut Looked) -> R
 
 fn read_link(
     alloc: Global,
-    sectors: &Sectors,
+    sectors: &Usable,
     path: &Path,
     looked: &mut Looked,
 ) -> Result<Reply, Stop>
@@ -154,7 +155,7 @@ fn link_text(alloc: Global, inode: &Inode) -> Result<Text, NoMemory>
     }
 }
 
-fn time(sectors: &Sectors, path: &Path, looked: &mut Looked) -> Result<Reply, Stop>
+fn time(sectors: &Usable, path: &Path, looked: &mut Looked) -> Result<Reply, Stop>
     ensures says { (held : Segments) → Says (reading (plan_timed path.now) sectors.now.entries held) result }
     ensures looks { (held : Segments) → UnlessNoMemory result (Looks sectors.now.entries held looked.old looked.new (plan_timed path.now)) }
 {

@@ -10,8 +10,8 @@ use edit_moves::owns_small;
 use frang_base::limits::{SEGMENT_BLOCKS, SEGMENT_INODES};
 use frang_base::{Held, LockId, Mode, NoMemory, Reply};
 use lock_sets::LockSet;
-use meta_version::Sectors;
 use plan_steps::Edit;
+use usable_sectors::Usable;
 
 /// Nodes join a set, each shared.
 pub(crate) fn join_nodes(set: &mut LockSet, nodes: &[u32]) -> Result<(), NoMemory>
@@ -27,7 +27,7 @@ pub(crate) fn join_nodes(set: &mut LockSet, nodes: &[u32]) -> Result<(), NoMemor
 #[tactic(auto, using(crate::proofs::Joined::joined_two))]
 pub(crate) fn join_edits(
     set: &mut LockSet,
-    sectors: &Sectors,
+    sectors: &Usable,
     nodes: &[u32],
     edits: &[Edit],
 ) -> Result<(), NoMemory>
@@ -42,7 +42,7 @@ pub(crate) fn join_edits(
 // A name in a block is under its directory; the bytes of a file are under the file, whose inode is edited too.
 fn join_edit(
     set: &mut LockSet,
-    sectors: &Sectors,
+    sectors: &Usable,
     nodes: &[u32],
     edit: &Edit,
 ) -> Result<(), NoMemory>
@@ -64,7 +64,7 @@ fn join_edit(
 // Of these nodes those that have the block join a set, sole.
 fn join_owners(
     set: &mut LockSet,
-    sectors: &Sectors,
+    sectors: &Usable,
     nodes: &[u32],
     block: u32,
 ) -> Result<(), NoMemory>

@@ -6,12 +6,12 @@ ghost use Rattle.plan_steps.specs.Spots.{FindsPassing, IsStanding};
 
 use dir_lookup::{Looked, Need, Spot, walk_passing};
 use frang_base::Path;
-use meta_version::Sectors;
+use usable_sectors::Usable;
 
 /// Where a path leads, and whether its walk looks up a name in the directory of this inode. What the walk looked at comes to
 /// `looked`.
 pub fn walk_passes(
-    sectors: &Sectors,
+    sectors: &Usable,
     path: &Path,
     inode: u32,
     looked: &mut Looked,

@@ -11,7 +11,7 @@ use dir_lookup::{Looked, Refusal, Spot, inode_at, walk_spot};
 use disk_definitions::Inode;
 use frang_base::limits::{KIND_DIRECTORY, ROOT_INODE};
 use frang_base::{Path, Reply};
-use meta_version::Sectors;
+use usable_sectors::Usable;
 
 /// A node by its inode's number and its kind, as its entry has it.
 #[derive(Clone, Copy, PartialEq, Eq)]
@@ -21,7 +21,7 @@ pub struct Target {
 }
 
 /// The node that a path names, or how the walk was refused. What the walk looked at comes to `looked`.
-pub fn target_of(sectors: &Sectors, path: &Path, looked: &mut Looked) -> Result<Target, Stop>
+pub fn target_of(sectors: &Usable, path: &Path, looked: &mut Looked) -> Result<Target, Stop>
     ensures finds { (held : Segments) → FindsTarget sectors.now.entries held path.now result }
     ensures looks { (held : Segments) → LooksAtTarget sectors.now.entries held looked.old looked.new path.now result }
 {
@@ -51,7 +51,7 @@ fn target_at(spot: &Spot) -> Result<Target, Refusal>
 }
 
 /// The inode of a node that was reached. A free one is refused as a name that isn't there. Its sector comes to `looked`.
-pub fn inode_of(sectors: &Sectors, i: u32, looked: &mut Looked) -> Result<Inode, Stop>
+pub fn inode_of(sectors: &Usable, i: u32, looked: &mut Looked) -> Result<Inode, Stop>
     ensures finds { (held : Segments) → FindsInode sectors.now.entries held i result }
     ensures used { IfOk result IsUsed }
     ensures looks { (held : Segments) → LooksAtInode sectors.now.entries held looked.old looked.new i result }

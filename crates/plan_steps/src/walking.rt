@@ -7,10 +7,10 @@ ghost use Rattle.plan_steps.specs.Spots.{FindsSpot, IsStanding};
 use crate::stop::Stop;
 use dir_lookup::{Looked, Spot, walk_spot};
 use frang_base::Path;
-use meta_version::Sectors;
+use usable_sectors::Usable;
 
 /// Where a path leads, refusals of the walk included. What the walk looked at comes to `looked`.
-pub fn walked(sectors: &Sectors, path: &Path, looked: &mut Looked) -> Result<Spot, Stop>
+pub fn walked(sectors: &Usable, path: &Path, looked: &mut Looked) -> Result<Spot, Stop>
     ensures finds { (held : Segments) → FindsSpot sectors.now.entries held path.now result }
     ensures stands { IfOk result IsStanding }
     ensures looks { (held : Segments) → LooksAtSpot sectors.now.entries held looked.old looked.new path.now result }
