@@ -1,1 +1,5 @@
 mod NothingRead
+mod Kept
+mod PendingSectors
+mod Wanting
+mod Laying

@@ -1,2 +1,4 @@
+pub mod Effects
+pub mod Outcomes
 pub mod Phases
 pub mod States

@@ -1,5 +1,5 @@
 -- What contracts see of a line under way and of a server: those of the core, and for how much more there is room.
-use Rattle.std.specs.Prelude.{◌≡◌, ◌≤◌, ℕ, Option, Some, None, List, []}
+use Rattle.std.specs.Prelude.{◌≡◌, ◌≤◌, ◌+◌, ℕ, Option, Some, None, List, []}
 use Rattle.std.specs.Option.{option_map}
 use Rattle.sector_bytes.specs.Blocks.{Block}
 use Rattle.sector_bytes.specs.SectorMaps.{Spacious}
@@ -28,8 +28,8 @@ spare_in (Some slots) = slots.spare
 
 -- ---- a server
 
--- which one it is; the server of the core but for its recovery, which is kept beside it; for so many more sectors its cache has room, and for so many more sectors its log and names of
--- sectors in it
+-- which one it is; the server of the core but for its recovery, which is kept beside it; for so many more sectors its cache has room, for so many more sectors its log and names of
+-- sectors in it, for so many more sectors what is pending, and for so many more slots of its log its line under way
 pub record State : Type 0 where
   pub id : ℕ
   pub server : Server
@@ -37,6 +37,8 @@ pub record State : Type 0 where
   pub spare : ℕ
   pub sectors : ℕ
   pub names : ℕ
+  pub zeros : ℕ
+  pub slots : ℕ
 
 -- before its first mount, and behind a recovery of its log, a server has no ring
 abbrev pub ring_in : Option SpaciousRing → Ring
@@ -58,9 +60,31 @@ under_in under = option_map (λ u. u.under) under
 abbrev pub cached_in : State → FlaggedCache
 cached_in state = record { entries = state.server.cache; staying = state.server.staying; flying = state.flying; spare = state.spare }
 
--- it is the same server, and there is no less room than before
+abbrev pub slots_under : Option UnderState → ℕ
+slots_under None = 0
+slots_under (Some under) = under.spare
+
+-- ---- room
+
+-- so many sectors of a cache, sectors of a log, names of sectors in it, and sectors that are pending
+pub record Room : Type 0 where
+  pub spare : ℕ
+  pub sectors : ℕ
+  pub names : ℕ
+  pub zeros : ℕ
+
+-- it is the same server, and there is no less room than before but for what is used
+pub record KeepsRoomBut (used : Room) (old new : State) : Type 0 where
+  pub id : new.id ≡ old.id
+  pub spare : old.spare ≤ new.spare + used.spare
+  pub sectors : old.sectors ≤ new.sectors + used.sectors
+  pub names : old.names ≤ new.names + used.names
+  pub zeros : old.zeros ≤ new.zeros + used.zeros
+
+-- the same, and nothing is used
 pub record KeepsRoom (old new : State) : Type 0 where
   pub id : new.id ≡ old.id
   pub spare : old.spare ≤ new.spare
   pub sectors : old.sectors ≤ new.sectors
   pub names : old.names ≤ new.names
+  pub zeros : old.zeros ≤ new.zeros

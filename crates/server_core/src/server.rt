@@ -44,7 +44,7 @@ impl Model for Server {
     ghost use Rattle.std.specs.Option.{option_map};
     ghost use Rattle.core_definitions.specs.Servers.{is_in_mount};
     ghost use Rattle.server_core.specs.Phases.{arming_of, phase_of};
-    ghost use Rattle.server_core.specs.States.{State, names_in, ring_in, sectors_in, under_in};
+    ghost use Rattle.server_core.specs.States.{State, names_in, ring_in, sectors_in, slots_under, under_in};
 
     ghost Value = { State };
 
@@ -68,6 +68,8 @@ impl Model for Server {
       spare = s.cache.spare;
       sectors = sectors_in s.ring;
       names = names_in s.ring;
+      zeros = s.pending.spare;
+      slots = slots_under s.under;
     } };
 
     ghost invariant = { λ s. is_in_mount (phase_of s.phase) ≡ true → is_some s.ring ≡ true };
