@@ -1,0 +1,4 @@
+pub mod Reading
+pub mod Wanting
+pub mod Listing
+pub mod Saying
