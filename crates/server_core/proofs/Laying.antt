@@ -1,9 +1,8 @@
 -- Changes and moves of a commit, laid sector by sector.
-use Rattle.std.proofs.Common.{◌≡◌, ◌≢◌, ◌<◌, ◌≤◌, ◌+◌, ◌^◌, ℕ, Bool, true, false, ◌&&◌, ◌||◌, not, if◌then◌else◌, IsTrue, nat_eq, nat_le, nat_lt, List, [], ◌∷◌, fold, map, filter, length, Option, Some, None, refl, sym, ap, ◌∙◌, subst, arith}
-use Rattle.std.proofs.lemmas.Bool.{and_parts, and_from, eq-eqb, false≢true}
+use Rattle.std.proofs.Common.{◌≡◌, ◌≢◌, ◌<◌, ◌+◌, ◌^◌, ℕ, Bool, true, false, ◌&&◌, ◌||◌, not, IsTrue, nat_eq, nat_le, nat_lt, List, [], ◌∷◌, fold, map, filter, length, Option, Some, None, refl, sym, ap, ◌∙◌, arith}
+use Rattle.std.proofs.lemmas.Bool.{and_parts, eq-eqb, false≢true}
 use Rattle.std.proofs.lemmas.Bool.Decides.{nat_tests}
 use Rattle.std.specs.List.{list_all}
-use Rattle.std.specs.List.Sorted.{IsStrictlySortedBy}
 use Rattle.std.specs.Option.{option_map, unwrap_or}
 use Rattle.frang_base.specs.Functions.{member}
 use Rattle.frang_base.specs.declared.change.Change.{Change}
@@ -14,7 +13,7 @@ use Rattle.disk_definitions.specs.Records.{record_bytes, record_fits, sectors_as
 use Rattle.ring_definitions.specs.Rings.{is_record, last}
 use Rattle.sector_bytes.specs.Changes.{changed, is_change, is_older}
 use Rattle.sector_bytes.specs.Replays.{change_at}
-use Rattle.sector_bytes.specs.SectorMaps.{Ascend, adjusted, value_at}
+use Rattle.sector_bytes.specs.SectorMaps.{Ascend, value_at}
 use Rattle.sector_bytes.proofs.MapLaws.{adjusted_nothing, adjusted_same, ascend_adjusted}
 use Rattle.cache_definitions.specs.Caches.{Cache, CachedSector, block_at, cover_at, dirty, each_cached, forgotten, with_change, with_cover}
 use Rattle.cache_definitions.proofs.FlagLaws.{left_all}
@@ -28,7 +27,7 @@ use Rattle.core_definitions.specs.Servers.{Server}
 use Rattle.server_core.specs.Outcomes.{IsOutcome, MayAppendSome, MayLay, are_older, bytes_of, changed_by_commit, changed_sector, changes_of, is_older_at, moves_of}
 use Rattle.server_core.specs.States.{State}
 use Rattle.server_core.specs.declared.outcome.Outcome.{Outcome}
-use Rattle.server_core.proofs.Kept.{each, each-each, each_alike, other_adjusted, part_adjusted}
+use Rattle.server_core.proofs.Kept.{each-each, each_alike, other_adjusted, part_adjusted}
 
 -- ---- one change
 

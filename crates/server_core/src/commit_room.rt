@@ -1,5 +1,5 @@
 // Room for a commit.
-ghost use Rattle.std.specs.Prelude.{◌≡◌, ◌-◌, ◌<◌, ◌≤◌, true, IsOk, IsTrue, OnOk};
+ghost use Rattle.std.specs.Prelude.{◌≡◌, ◌-◌, ◌<◌, ◌≤◌, true, IsTrue, OnOk};
 ghost use Rattle.frang_base.specs.declared.limits.TheConstants.{LOG_NUMBERS_END};
 ghost use Rattle.ring_definitions.specs.Rings as rings;
 ghost use Rattle.ring_definitions.specs.Rings.{is_record};
