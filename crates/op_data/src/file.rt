@@ -15,8 +15,8 @@ use disk_definitions::Inode;
 use frang_base::limits::{KIND_DIRECTORY, KIND_FILE, SMALL_BLOCK_SECTORS, SMALL_SECTORS_MAX};
 use frang_base::{Block, Path, Reply, Sector};
 use frang_layout::{Region, sector_of};
-use meta_version::Sectors;
 use plan_steps::{Stop, inode_of, target_of};
+use usable_sectors::Usable;
 
 /// The file that a path names. `Refused` where the name isn't there or is another node's, by the kind that its entry tells, and where the
 /// entry tells a file but the inode is another node's; `Need` where a sector isn't cached. What leads to it comes to `looked`.
@@ -69,7 +69,7 @@ fn place_of(inode: &Inode, t: u32) -> Region
 }
 
 // The block of a sector.
-fn block_at(sectors: &Sectors, sector: Sector) -> Result<Block, Need>
+fn block_at(sectors: &Usable, sector: Sector) -> Result<Block, Need>
     ensures { read_of (λ block. block) result ≡ read_or_lacks sector.0 (value_at sectors.now.entries sector.0) }
 {
     match sectors.get(sector) {

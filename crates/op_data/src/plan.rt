@@ -17,10 +17,11 @@ use crate::writing::Writing;
 use dir_lookup::{Hand, Looked};
 use edit_writing::finish;
 use frang_base::{Held, NoMemory, Op};
-use meta_version::{Plan, Sectors};
+use meta_version::Plan;
 use plan_steps::{Outcome, Stop};
 use std::alloc::Global;
 use tree_edits::Bytes;
+use usable_sectors::Usable;
 
 /// The plan of an operation on file bytes over the cached sectors and the bitmaps of the held segments; `all` says whether these are all segments of the
 /// disk. `when` is the time of the operation, its run in the upper 32 bits and the tick of the run in the lower ones, which a file that is written or cut
@@ -31,7 +32,7 @@ pub fn plan_data(
     alloc: Global,
     op: &Op,
     when: u64,
-    sectors: &Sectors,
+    sectors: &Usable,
     held: &Held,
     all: bool,
 ) -> Result<Plan, NoMemory>

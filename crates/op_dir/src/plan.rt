@@ -16,10 +16,11 @@ use crate::{link_node, make, remove_directory, rename_node, unlink};
 use dir_lookup::{Hand, Looked};
 use edit_writing::finish;
 use frang_base::{Held, NoMemory, Op, OpNo, Text};
-use meta_version::{Plan, Sectors};
+use meta_version::Plan;
 use plan_steps::{NewNode, Outcome, Stop};
 use std::alloc::Global;
 use tree_definitions::Target;
+use usable_sectors::Usable;
 
 /// The plan of an operation on names, whose new node has the birth `birth`, over the cached sectors and the bitmaps of the held segments; `all` says
 /// whether these are all segments of the disk. `Need` names the first sector that is looked at and isn't cached, and the sector of a segment that isn't
@@ -31,7 +32,7 @@ pub fn plan_dir(
     alloc: Global,
     op: &Op,
     birth: OpNo,
-    sectors: &Sectors,
+    sectors: &Usable,
     held: &Held,
     all: bool,
 ) -> Result<Plan, NoMemory>
