@@ -14,9 +14,9 @@ use dir_lookup::Looked;
 use file_tree::{with_path, with_paths};
 use frang_base::limits::{KIND_DIRECTORY, ROOT_INODE};
 use frang_base::{NoMemory, Op, Path, Reply, Sector};
-use meta_version::Sectors;
 use namei::{PathEnd, Resolution, Walked, walk_links};
 use std::alloc::Global;
+use usable_sectors::Usable;
 
 /// An operation over paths without links, or how a walk was refused.
 #[derive(Drop)]
@@ -45,7 +45,7 @@ pub enum Line {
 pub fn resolve_line(
     alloc: Global,
     op: &Op,
-    sectors: &Sectors,
+    sectors: &Usable,
     looked: &mut Looked,
 ) -> Result<Line, NoMemory>
     ensures looks { (held : Segments) → OnOk result (Adds looked.old looked.new (looks_of (lines.resolved op.now) sectors.now.entries held)) }
@@ -140,7 +140,7 @@ fn over_path(
     op: &Op,
     path: &Path,
     last: bool,
-    sectors: &Sectors,
+    sectors: &Usable,
     looked: &mut Looked,
 ) -> Result<Line, NoMemory>
     ensures looks { (held : Segments) → OnOk result (Adds looked.old looked.new (looks_of (lines.over_path last path.now (λ p. with_path op.now p)) sectors.now.entries held)) }
@@ -187,7 +187,7 @@ fn over_paths(
     dirs: bool,
     path: &Path,
     to: &Path,
-    sectors: &Sectors,
+    sectors: &Usable,
     looked: &mut Looked,
 ) -> Result<Line, NoMemory>
     ensures looks { (held : Segments) → OnOk result (Adds looked.old looked.new (looks_of (lines.over_paths dirs path.now to.now (λ p q. with_paths op.now p q)) sectors.now.entries held)) }
@@ -207,7 +207,7 @@ fn over_second(
     dirs: bool,
     walk: Resolution,
     to: &Path,
-    sectors: &Sectors,
+    sectors: &Usable,
     looked: &mut Looked,
 ) -> Result<Line, NoMemory>
     ensures looks { (held : Segments) → OnOk result (Adds looked.old looked.new (looks_of (lines.by_first dirs to.now (λ p q. with_paths op.now p q) (end_of walk.end) walk.trail.items) sectors.now.entries held)) }
@@ -253,7 +253,7 @@ fn to_second(
     first: Path,
     trail: Vec<u32>,
     to: &Path,
-    sectors: &Sectors,
+    sectors: &Usable,
     looked: &mut Looked,
 ) -> Result<Line, NoMemory>
     ensures looks { (held : Segments) → OnOk result (Adds looked.old looked.new (looks_of (lines.by_second true trail.items to.now (λ q. with_paths op.now first q)) sectors.now.entries held)) }

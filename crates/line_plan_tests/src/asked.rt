@@ -11,8 +11,8 @@ use frang_layout::{Region, region_of};
 use line_plan::{LineEnd, plan_line};
 use meta_version::Sectors;
 use plan_disks::{
-    Segments, are_all, bytes_op, held_of, leave_out_but, look_op, names_op, outcome_told,
-    put_sectors, sectors_of,
+    CachedDisk, Segments, are_all, bytes_op, held_of, leave_out_but, look_op, names_op,
+    outcome_told, put_sectors, sectors_of,
 };
 use plan_locks::nodes_in;
 use plan_steps::Outcome;
@@ -93,8 +93,10 @@ fn told_over(
     sectors: &Sectors,
 ) -> Result<String, NoMemory> {
     let held = held_of(alloc, disk.segments, disk.held)?;
+    let cached = CachedDisk::of(alloc, sectors)?;
+    let usable = cached.usable();
     let hand = Hand {
-        sectors,
+        sectors: &usable,
         held: &held,
         all: are_all(disk.held),
     };

@@ -8,7 +8,7 @@ use frang_base::{NoMemory, Op};
 use meta_version::Sectors;
 use op_data::plan_bytes;
 use plan_disks::{
-    Segments, are_all, bytes_op, ended_told, held_of, sectors_of, when_of, written_told,
+    CachedDisk, Segments, are_all, bytes_op, ended_told, held_of, sectors_of, when_of, written_told,
 };
 use std::alloc::Global;
 use std::process::Abort;
@@ -74,8 +74,10 @@ fn told(
         return Err(NoMemory);
     }
     let held = held_of(alloc, setup.segments, setting)?;
+    let cached = CachedDisk::of(alloc, sectors)?;
+    let usable = cached.usable();
     let hand = Hand {
-        sectors,
+        sectors: &usable,
         held: &held,
         all: are_all(setting),
     };

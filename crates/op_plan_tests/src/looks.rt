@@ -5,11 +5,12 @@ use crate::expected::expect_told;
 use frang_base::{NoMemory, Op};
 use meta_version::Sectors;
 use op_look::plan_look;
-use plan_disks::{leave_out_but, look_op, plan_told, sectors_of};
+use plan_disks::{CachedDisk, leave_out_but, look_op, plan_told, sectors_of};
 use std::alloc::Global;
 use std::process::Abort;
 use std::test::Fail;
 use test_tables::{columns, has_rows, is_row};
+use usable_sectors::Usable;
 
 // Inodes 0 to 3, 5, and 7 to 9, blocks 0 and 1. The root has ten entries in block 0. The file /a, which is /B and /d/x too, has five bytes in
 // block 2; it was written at tick 67,305,985 of run 134,678,021. The file /u was never written, and /w in the last tick of the last run. The
@@ -51,10 +52,12 @@ fn told(alloc: Global, line: &str, setting: &str) -> Result<String, NoMemory> {
 /// What is told of a look over the cached sectors.
 pub(crate) fn told_over(alloc: Global, line: &str, sectors: &Sectors) -> Result<String, NoMemory> {
     let op = look_op(alloc, line)?;
-    told_of(alloc, &op, sectors)
+    let cached = CachedDisk::of(alloc, sectors)?;
+    let usable = cached.usable();
+    told_of(alloc, &op, &usable)
 }
 
-fn told_of(alloc: Global, op: &Op, sectors: &Sectors) -> Result<String, NoMemory>
+fn told_of(alloc: Global, op: &Op, sectors: &Usable) -> Result<String, NoMemory>
     requires { IsLook op.now }
 {
     let plan = plan_look(alloc, op, sectors)?;

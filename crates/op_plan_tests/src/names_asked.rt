@@ -9,7 +9,9 @@ use dir_lookup::{Hand, Looked};
 use frang_base::{NoMemory, Op};
 use meta_version::Sectors;
 use op_dir::plan_names;
-use plan_disks::{are_all, ended_told, held_of, leave_out, names_op, sectors_of, written_told};
+use plan_disks::{
+    CachedDisk, are_all, ended_told, held_of, leave_out, names_op, sectors_of, written_told,
+};
 use std::alloc::Global;
 use std::process::Abort;
 use std::test::Fail;
@@ -55,8 +57,10 @@ fn told_over(
     setting: &str,
 ) -> Result<String, NoMemory> {
     let held = held_of(alloc, setup.segments, setting)?;
+    let cached = CachedDisk::of(alloc, sectors)?;
+    let usable = cached.usable();
     let hand = Hand {
-        sectors,
+        sectors: &usable,
         held: &held,
         all: are_all(setting),
     };

@@ -10,12 +10,13 @@ use edit_writing::{byte_writes, changes_of, have_next_versions};
 use frang_base::{Block, Change, Changes, NoMemory, Op, Sector};
 use meta_version::{Sectors, apply, is_change};
 use op_data::plan_bytes;
-use plan_disks::{Segment, bytes_op, held_of, path_of, sectors_of};
+use plan_disks::{CachedDisk, Segment, bytes_op, held_of, path_of, sectors_of};
 use plan_steps::Edit;
 use reply_text::write_line;
 use std::alloc::Global;
 use std::test::Fail;
 use test_tables::lay_on;
+use usable_sectors::Usable;
 
 // The segment: inodes 0 to 3; block 0 is a directory's, block 1 has bytes.
 const SEGMENT: Segment = Segment {
@@ -139,7 +140,7 @@ fn write(disk: &mut Disk, bytes: &[(Sector, Block)]) -> Result<(), NoMemory> {
 }
 
 // The changes by which the edits are made over what is at hand; none where a version has no next one.
-fn changes(alloc: Global, sectors: &Sectors, edits: &[Edit]) -> Result<Changes, NoMemory> {
+fn changes(alloc: Global, sectors: &Usable, edits: &[Edit]) -> Result<Changes, NoMemory> {
     let held = &held_of(alloc, &SEGMENTS, "segment")?;
     let hand = Hand {
         sectors,
@@ -157,7 +158,7 @@ fn changes(alloc: Global, sectors: &Sectors, edits: &[Edit]) -> Result<Changes, 
 fn make_edits(
     alloc: Global,
     disk: &mut Disk,
-    sectors: &Sectors,
+    sectors: &Usable,
     edits: &[Edit],
 ) -> Result<(), NoMemory> {
     make(disk, changes(alloc, sectors, edits)?.as_slice())?;
@@ -179,8 +180,10 @@ fn write_over(alloc: Global, disk: &mut Disk) -> Result<(), NoMemory> {
 
 fn write_by(alloc: Global, disk: &mut Disk, sectors: &Sectors) -> Result<(), NoMemory> {
     let held = held_of(alloc, &SEGMENTS, "segment")?;
+    let cached = CachedDisk::of(alloc, sectors)?;
+    let usable = cached.usable();
     let hand = Hand {
-        sectors,
+        sectors: &usable,
         held: &held,
         all: true,
     };

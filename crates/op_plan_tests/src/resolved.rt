@@ -4,7 +4,7 @@ use crate::expected::expect_told;
 use frang_base::{NoMemory, Path};
 use meta_version::Sectors;
 use namei::{Resolved, resolve};
-use plan_disks::{leave_out_but, path_of, sectors_of};
+use plan_disks::{CachedDisk, leave_out_but, path_of, sectors_of};
 use std::alloc::Global;
 use std::fmt::Write;
 use std::process::Abort;
@@ -89,7 +89,9 @@ fn told_over(
 ) -> Result<String, NoMemory> {
     let path = path_of(alloc, path)?;
     let is_followed = has_word(setting, "followed");
-    resolved_told(alloc, &resolve(alloc, &path, is_followed, sectors, 0)?)
+    let cached = CachedDisk::of(alloc, sectors)?;
+    let usable = cached.usable();
+    resolved_told(alloc, &resolve(alloc, &path, is_followed, &usable, 0)?)
 }
 
 fn resolved_told(alloc: Global, resolved: &Resolved) -> Result<String, NoMemory> {

@@ -10,7 +10,7 @@ use edit_writing::{byte_writes, changes_of, freed_sectors, have_next_versions};
 use frang_base::NoMemory;
 use frang_base::limits::SECTOR_BYTES;
 use meta_version::Sectors;
-use plan_disks::{Segment, add_changes, add_freed, add_writes, held_of, sectors_of};
+use plan_disks::{CachedDisk, Segment, add_changes, add_freed, add_writes, held_of, sectors_of};
 use plan_steps::Edit;
 use std::alloc::Global;
 use std::process::Abort;
@@ -157,8 +157,10 @@ fn told(alloc: Global, cached: &str, edits: &[Edit]) -> Result<String, NoMemory>
 
 fn told_over(alloc: Global, sectors: &Sectors, edits: &[Edit]) -> Result<String, NoMemory> {
     let held = held_of(alloc, &SEGMENTS, "first second")?;
+    let cached = CachedDisk::of(alloc, sectors)?;
+    let usable = cached.usable();
     let hand = Hand {
-        sectors,
+        sectors: &usable,
         held: &held,
         all: true,
     };
