@@ -12,6 +12,8 @@ mod packed;
 #[cfg(test)]
 mod pieces;
 #[cfg(test)]
+mod recoveries;
+#[cfg(test)]
 mod replays;
 #[cfg(test)]
 mod rings;

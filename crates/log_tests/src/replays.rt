@@ -9,7 +9,7 @@ use test_tables::{block_of, lay_on, sector, split};
 
 const PARAMETER_SECTOR: u64 = 0;
 
-const LOG_0: u64 = 2_147_483_648;
+pub(crate) const LOG_0: u64 = 2_147_483_648;
 
 const LOG_255: u64 = 4_286_578_688;
 
@@ -98,7 +98,7 @@ fn record(alloc: Global, number: u64, op: u64, changes: &[OneByte]) -> Result<Bl
     Ok(part_block(number, op, 0, 1, &body))
 }
 
-fn set(disk: &mut Disk, sector: u64, block: Block) -> Result<(), NoMemory> {
+pub(crate) fn set(disk: &mut Disk, sector: u64, block: Block) -> Result<(), NoMemory> {
     disk.set(Sector(sector), block)
 }
 
@@ -111,7 +111,7 @@ fn lay_logs(alloc: Global, disk: &mut Disk) -> Result<(), NoMemory> {
     set(disk, LOG_255, record(alloc, 256, 9, &OTHER)?)
 }
 
-fn with_logs(alloc: Global) -> Result<Disk, NoMemory> {
+pub(crate) fn with_logs(alloc: Global) -> Result<Disk, NoMemory> {
     let mut disk = Disk::new(alloc);
     lay_logs(alloc, &mut disk)?;
     Ok(disk)
@@ -140,7 +140,7 @@ fn packed_log(alloc: Global) -> Result<Block, NoMemory> {
 }
 
 // The same disk with that sector.
-fn with_packed_log(alloc: Global) -> Result<Disk, NoMemory> {
+pub(crate) fn with_packed_log(alloc: Global) -> Result<Disk, NoMemory> {
     let mut disk = with_logs(alloc)?;
     set(&mut disk, LOG_0, packed_log(alloc)?)?;
     set(&mut disk, LOG_0 + 1, [0; 512])?;
@@ -157,7 +157,7 @@ fn is_so(disk: &Disk, line: &str) -> Result<bool, NoMemory> {
 }
 
 // Whether all sectors of a text are as its lines tell.
-fn are_so(disk: &Disk, text: &str) -> Result<bool, NoMemory> {
+pub(crate) fn are_so(disk: &Disk, text: &str) -> Result<bool, NoMemory> {
     for line in text.lines() {
         if !is_so(disk, line)? {
             return Ok(false);
