@@ -1,0 +1,20 @@
+-- One after another.
+use Rattle.std.proofs.Common.{sym, ap, ◌∙◌, Option}
+use Rattle.frang_base.specs.declared.sector.Sector.{Sector}
+use Rattle.frang_base.specs.declared.lock.LockId.{LockId}
+use Rattle.lock_definitions.specs.declared.claim.AskedFor.{AskedFor}
+use Rattle.ordered_map.specs.Chunks.{joined}
+use Rattle.server_core.specs.States.{cached_in}
+use Rattle.server_writes.specs.Wants.{first_of, next_if_sole}
+use Rattle.server_writes.proofs.Stepping.{piece_found, piece_passed}
+use Rattle.server_writes.proofs.ready.first_pressed.Goals as goal
+
+pub returns-in-Some : goal.returns-in-Some
+returns-in-Some c =
+    let f : LockId × AskedFor → Option Sector = next_if_sole c.args.table.now.locks c.args.server.now.id (cached_in c.args.server.now) c.args.server.now.server.ring.reached in
+    piece_found f c.args.pieces.now c.loop-piece.piece-index c.piece-item.result c.loop-piece-test.true c.piece-item.is (first_of f (joined c.args.pieces.now)) c.loop-piece.invariant c.in-Some.found (sym (c.first_pressed_of.ensures ∙ ap (first_of f) c.entries.ensures) ∙ c.in-Some.is)
+
+pub loop-piece-preserved : goal.loop-piece-preserved
+loop-piece-preserved c =
+    let f : LockId × AskedFor → Option Sector = next_if_sole c.args.table.now.locks c.args.server.now.id (cached_in c.args.server.now) c.args.server.now.server.ring.reached in
+    piece_passed f c.args.pieces.now c.loop-piece.piece-index c.piece-item.result c.loop-piece-test.true c.piece-item.is (first_of f (joined c.args.pieces.now)) c.loop-piece.invariant (sym (c.first_pressed_of.ensures ∙ ap (first_of f) c.entries.ensures) ∙ c.in_default.is)
