@@ -1,8 +1,10 @@
 // Lines over a disk, and what is told of their plans.
 ghost use Rattle.std.specs.Prelude.{◌≡◌, true};
+ghost use Rattle.disk_definitions.specs.Held.{AreSegments};
 ghost use Rattle.line_plan.specs.Lines.{TargetFits};
 
 use crate::needed::locks_told;
+use crate::planned;
 use dir_lookup::{Hand, Looked};
 use edit_moves::{Move, Thing, cover_among, moves_of};
 use frang_base::limits::TARGET_BYTES_MAX;
@@ -16,6 +18,7 @@ use plan_disks::{
 };
 use plan_locks::nodes_in;
 use plan_steps::Outcome;
+use planned_lines::plan_for_core;
 use script_lang::print_script;
 use std::alloc::Global;
 use std::fmt::Write;
@@ -45,6 +48,8 @@ pub(crate) enum Telling {
     Looks,
     /// The locks that it needs where it is done or has a block cleared.
     Locks,
+    /// How it ends where it is planned for the core.
+    ForCore,
 }
 
 // Line 7 of run 3, and tick 9 of it.
@@ -108,7 +113,9 @@ fn told_at_hand(
     hand: &Hand,
     telling: Telling,
     line: &str,
-) -> Result<String, NoMemory> {
+) -> Result<String, NoMemory>
+    requires { AreSegments hand.now.held.now }
+{
     let op = op_of(alloc, line)?;
     if !fits(&op) {
         return Err(NoMemory);
@@ -118,12 +125,14 @@ fn told_at_hand(
 
 // What is told of the plan of an operation.
 fn told_of(alloc: Global, hand: &Hand, telling: Telling, op: &Op) -> Result<String, NoMemory>
-    requires { TargetFits op.now }
+    requires fits { TargetFits op.now }
+    requires held { AreSegments hand.now.held.now }
 {
     match telling {
         Telling::End => end_of(alloc, hand, op),
         Telling::Looks => looks_by(alloc, hand, op),
         Telling::Locks => locks_by(alloc, hand, op),
+        Telling::ForCore => for_core(alloc, hand, op),
     }
 }
 
@@ -150,6 +159,14 @@ fn locks_by(alloc: Global, hand: &Hand, op: &Op) -> Result<String, NoMemory>
     let mut looked = Looked::new(alloc);
     let end = plan_line(alloc, hand, BIRTH, WHEN, op, &mut looked)?;
     locks_of(alloc, hand, looked, &end)
+}
+
+fn for_core(alloc: Global, hand: &Hand, op: &Op) -> Result<String, NoMemory>
+    requires fits { TargetFits op.now }
+    requires held { AreSegments hand.now.held.now }
+{
+    let planned = plan_for_core(alloc, hand, 1, BIRTH, WHEN, op)?;
+    planned::end_told(alloc, &planned.end)
 }
 
 fn looks_of(alloc: Global, looked: Looked) -> Result<String, NoMemory> {
@@ -244,8 +261,8 @@ fn need_told(
     Ok(text)
 }
 
-// A thing that moves, and the lock under which its sectors are then.
-fn add_move(text: &mut String, moved: &Move) -> Result<(), NoMemory> {
+/// A thing that moves, and the lock under which its sectors are then.
+pub(crate) fn add_move(text: &mut String, moved: &Move) -> Result<(), NoMemory> {
     let lock = moved.lock;
     match moved.thing {
         Thing::Inode(number) => write!(text, ", inode {number} under {lock:?}")?,

@@ -146,8 +146,8 @@ static SEGMENTS: [(&str, Segment); 3] = [
     ("full", FULL_SEGMENT),
 ];
 
-// What is at hand of the disk.
-fn at_hand() -> Disk {
+/// What is at hand of the disk.
+pub(crate) fn at_hand() -> Disk {
     Disk {
         laid: DISK,
         more: "",
@@ -156,7 +156,8 @@ fn at_hand() -> Disk {
     }
 }
 
-fn bare_at_hand() -> Disk {
+/// What is at hand of the bare disk.
+pub(crate) fn bare_at_hand() -> Disk {
     Disk {
         laid: BARE,
         held: "bare all",
@@ -172,7 +173,8 @@ fn full_at_hand() -> Disk {
     }
 }
 
-fn full_so_far_at_hand() -> Disk {
+/// The same with a segment that has nothing free, where it isn't said to be all.
+pub(crate) fn full_so_far_at_hand() -> Disk {
     Disk {
         laid: BARE,
         held: "full",

@@ -43,7 +43,8 @@ fn set_told(alloc: Global, set: &LockSet) -> Result<String, NoMemory> {
     Ok(text)
 }
 
-fn add_set(text: &mut String, set: &LockSet) -> Result<(), NoMemory> {
+/// Adds the locks of a set, a sole one with a `!`.
+pub(crate) fn add_set(text: &mut String, set: &LockSet) -> Result<(), NoMemory> {
     for need in set.as_slice() {
         add_lock(text, need.0, need.1)?;
     }

@@ -21,5 +21,6 @@ pub use edits::{ended_told, outcome_told};
 pub use operations::{bytes_op, look_op, names_op};
 pub use paths::path_of;
 pub use plans::{add_changes, add_freed, add_writes, plan_told, written_told};
+pub use replies::add_reply;
 pub use segments::{Segment, Segments, held_of};
 pub use settings::{are_all, leave_out, leave_out_but, when_of};

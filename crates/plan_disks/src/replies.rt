@@ -7,7 +7,7 @@ use std::alloc::Global;
 const BEFORE_REPLY: usize = 4;
 
 /// Adds the words of a reply. Its one refusal is want of memory.
-pub(crate) fn add_reply(alloc: Global, text: &mut String, reply: &Reply) -> Result<(), NoMemory> {
+pub fn add_reply(alloc: Global, text: &mut String, reply: &Reply) -> Result<(), NoMemory> {
     let line = line_of(alloc, reply)?;
     add_words(text, &line)
 }
