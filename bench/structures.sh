@@ -9,7 +9,7 @@ top=$(cd "$(dirname "$0")/.." && pwd)
 work=$(mktemp -d)
 trap 'rm -rf "$work"' EXIT
 mkdir "$work/crates"
-for crate in frang_base sorted_entries ordered_map sector_bytes frang_outside meta_version flush_order cache_definitions clerk_cache lock_definitions lock_table petal_disk; do
+for crate in frang_base tree_definitions sorted_entries ordered_map sector_bytes frang_outside meta_version flush_order cache_definitions clerk_cache lock_definitions lock_table petal_disk; do
   cp -a "$top/crates/$crate" "$work/crates/"
   grep "^$crate:" "$top/crates.txt" >>"$work/crates.txt"
 done

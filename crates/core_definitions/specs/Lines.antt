@@ -21,7 +21,7 @@ use Rattle.disk_definitions.specs.Plans.{Lock, Plan}
 use Rattle.disk_definitions.specs.Plans.Plan.{Lacks, Clears, Finishes}
 use Rattle.cache_definitions.specs.Caches.{Cache}
 use Rattle.core_definitions.specs.Logs.{SlotsRead}
-use Rattle.core_definitions.specs.Plans.{Sight, Outcome, clear_needs, cover_of, examined_in, finish_needs, nodes_looked_at, outcome_of, planned, program_of, sight_of}
+use Rattle.core_definitions.specs.Plans.{Sight, Outcome, clear_needs, examined_in, finish_needs, needed_cover, nodes_looked_at, outcome_of, planned, program_of, sight_of}
 use Rattle.set_definitions.specs.Sets.{LockSet, first_set, has_lock, lacks, next_segment, segments_in, to_ask}
 use Rattle.core_definitions.specs.Settings.{Setting}
 use Rattle.set_definitions.specs.Seen.{SeenSectors, Comparison, HasMoved, HasStopped, HasGoneThrough, compared, seen_more}
@@ -94,7 +94,7 @@ needing comparison set seen sector cover =
 
 -- by what the plan comes to, where it looked at the inodes of these nodes; the next segment to join is this one
 abbrev pub stage_by : Setting → Line → Op → Sight → LockSet → Option ℕ → Comparison → SeenSectors → List ℕ → Met Plan → Stage
-stage_by setting line operation sight set next comparison seen nodes (Needs sector) = needing comparison set seen (number_of sector) (cover_of nodes sight sector)
+stage_by setting line operation sight set next comparison seen nodes (Needs sector) = needing comparison set seen (number_of sector) (needed_cover setting.segments nodes sight sector)
 stage_by setting line operation sight set next comparison seen nodes (Has Lacks) = once_through comparison (Growing (sole_segment next) seen)
 stage_by setting line operation sight set next comparison seen nodes (Has (Clears block locks)) =
     once_through comparison (or_grown set (clear_needs operation nodes sight block) seen (Clearing block))

@@ -27,7 +27,7 @@ use Rattle.disk_definitions.specs.LookedAt.{examined, nodes_in}
 use Rattle.disk_definitions.specs.CoversAtHand.{cover_among}
 use Rattle.disk_definitions.specs.FoundLocks.{cleared_locks, finish_locks, owns_at_hand}
 use Rattle.disk_definitions.specs.Moves.{moved_by}
-use Rattle.disk_definitions.specs.Numbered.{moves_of}
+use Rattle.disk_definitions.specs.Numbered.{moves_of, sector_at}
 use Rattle.disk_definitions.specs.Lines.{plan_of_line, resolved}
 use Rattle.cache_definitions.specs.Caches.{Cache}
 use Rattle.set_definitions.specs.Usable.{usable}
@@ -79,9 +79,13 @@ nodes_looked_at segments program sight = nodes_in segments (examined_in program 
 
 -- ---- the locks that it finds, by the nodes at whose inodes it looked
 
--- the cover of a sector that it needs
+-- the cover of a sector that it needs or sets
 abbrev pub cover_of : List ℕ → Sight → Sector → LockId
 cover_of nodes sight sector = cover_among sight.cached sight.held nodes sector
+
+-- a sector that is needed is known by its number: this is the cover of the one that has the number on a disk of so many segments; where none has, of the sector itself
+abbrev pub needed_cover : ℕ → List ℕ → Sight → Sector → LockId
+needed_cover segments nodes sight sector = cover_of nodes sight (unwrap_or (sector_at segments (number_of sector)) sector)
 
 -- those of the finished line
 abbrev pub finish_needs : List ℕ → Sight → Finish → List Lock

@@ -2,13 +2,13 @@ pub mod Turns
 pub mod StageForms
 pub mod CacheForms
 pub mod WriteKinds
-mod Phases
-mod Staling
+pub mod Phases
+pub mod Staling
 mod LogHolds
-mod Taking
+pub mod Taking
 mod Soling
-mod Owing
-mod Rescuing
-mod Marking
-mod Reading
+pub mod Owing
+pub mod Rescuing
+pub mod Marking
+pub mod Reading
 mod Wholeness

@@ -54,7 +54,7 @@ passed_last r reached (true ∷ above) = passed_last r (reached + 1) above ∙ m
     more n k w = omega arith
 passed_last r reached (false ∷ above) = refl
 
-acked_last : (r : Ring) (number : ℕ) → last (acked r number) ≡ last r
+pub acked_last : (r : Ring) (number : ℕ) → last (acked r number) ≡ last r
 acked_last r number = go (nat_lt r.reached number)
   where
     go : (b : Bool) → last (if b then passed r r.reached (set r.above (number - r.reached - 1) true) else r) ≡ last r

@@ -173,47 +173,47 @@ blocks_high block = all (below 8)
 
 -- ---- what is kept
 
-abbrev HighCache : Cache → Type 0
+abbrev pub HighCache : Cache → Type 0
 HighCache cache = EachEntry (λ sector cached. High sector) cache
 
-abbrev slots_in : Option Under → SlotsRead
+abbrev pub slots_in : Option Under → SlotsRead
 slots_in None = []
 slots_in (Some under) = under.slots
 
-abbrev OfDisk : Sectors → ℕ → SlotsRead → Type 0
+abbrev pub OfDisk : Sectors → ℕ → SlotsRead → Type 0
 OfDisk disk a slots = (slot : ℕ) (block : Block) → value_at slots slot ≡ Some block → (slot < 256) × IsTrue (is_server a) × (block ≡ disk (sector_of (region.Log a slot)))
 
-abbrev OfDiskOrSeal : Sectors → ℕ → SlotsRead → Type 0
+abbrev pub OfDiskOrSeal : Sectors → ℕ → SlotsRead → Type 0
 OfDiskOrSeal disk dead slots =
     (slot : ℕ) (block : Block) → value_at slots slot ≡ Some block → (slot < 256) × ((block ≡ disk (sector_of (region.Log dead slot))) ⊎ IsSealedOver disk_logs disk dead slots slot)
 
-abbrev ReadBy : Sectors → Option Recovery → Type 0
+abbrev pub ReadBy : Sectors → Option Recovery → Type 0
 ReadBy disk None = Unit {0}
 ReadBy disk (Some r) = OfDiskOrSeal disk r.dead r.slots
 
-abbrev at_work : ℕ → Phase → Bool
+abbrev pub at_work : ℕ → Phase → Bool
 at_work i phase = (is_server i && is_up phase) || i == host_party
 
-record Held (disk : Sectors) (i : ℕ) (phase : Phase) (cache : Cache) (under : Option Under) (recovery : Option Recovery) : Type 0 where
-  high : HighCache cache
-  asleep : is_off phase ≡ false → slots_in under ≡ []
-  mount : OfDisk disk i (slots_in under)
-  reads : IsTrue (at_work i phase) → ReadBy disk recovery
+pub record Held (disk : Sectors) (i : ℕ) (phase : Phase) (cache : Cache) (under : Option Under) (recovery : Option Recovery) : Type 0 where
+  pub high : HighCache cache
+  pub asleep : is_off phase ≡ false → slots_in under ≡ []
+  pub mount : OfDisk disk i (slots_in under)
+  pub reads : IsTrue (at_work i phase) → ReadBy disk recovery
 
-abbrev HeldBy : Sectors → ℕ → Server → Type 0
+abbrev pub HeldBy : Sectors → ℕ → Server → Type 0
 HeldBy disk i server = Held disk i server.phase server.cache server.under server.recovery
 
-abbrev PlacedFor : Purpose → Flight → Type 0
+abbrev pub PlacedFor : Purpose → Flight → Type 0
 PlacedFor (OfLog number) f = Unit {0}
 PlacedFor (InPlace cover) f = High f.sector
 PlacedFor OfRecovery f = High f.sector ⊎ ((number : ℕ) × (f.sector ≡ log_sector disk_logs f.behalf number))
 
-abbrev Placed : Flight → Type 0
+abbrev pub Placed : Flight → Type 0
 Placed f = PlacedFor f.purpose f
 
-record Reads (servers : ℕ → Server) (flights : Flights) (disk : Sectors) : Type 0 where
-  held : (i : ℕ) → HeldBy disk i (servers i)
-  placed : AllFlights Placed flights
+pub record Reads (servers : ℕ → Server) (flights : Flights) (disk : Sectors) : Type 0 where
+  pub held : (i : ℕ) → HeldBy disk i (servers i)
+  pub placed : AllFlights Placed flights
 
 nothing_read : (disk : Sectors) (a : ℕ) → OfDisk disk a []
 nothing_read disk a slot block e = absurd (none-some block e)
@@ -224,16 +224,16 @@ held_nothing disk i phase = record { high = tt; asleep = λ e. refl; mount = not
 
 -- ---- one of a log's sectors is of one log and slot
 
-low_high : (x y : ℕ) → High x → y < 4294967296 → x ≡ y → ⊥
+pub low_high : (x y : ℕ) → High x → y < 4294967296 → x ≡ y → ⊥
 low_high x y h i e = absurd (omega (arith, h, i, e))
 
-slot_low : (a slot : ℕ) → a < 256 → slot < 256 → sector_of (region.Log a slot) < 4294967296
+pub slot_low : (a slot : ℕ) → a < 256 → slot < 256 → sector_of (region.Log a slot) < 4294967296
 slot_low a slot h i = omega (arith, h, i)
 
 below_slots : (n : ℕ) → n % 256 < 256
 below_slots n = omega arith
 
-same_log : (a number i slot : ℕ) → slot < 256 → log_sector disk_logs a number ≡ sector_of (region.Log i slot) → (a ≡ i) × (number % 256 ≡ slot)
+pub same_log : (a number i slot : ℕ) → slot < 256 → log_sector disk_logs a number ≡ sector_of (region.Log i slot) → (a ≡ i) × (number % 256 ≡ slot)
 same_log a number i slot h e = places a (number % 256) i slot (below_slots number) h e
   where
     places : (a x i y : ℕ) → x < 256 → y < 256 → 2147483648 + a * 8388608 + x ≡ 2147483648 + i * 8388608 + y → (a ≡ i) × (x ≡ y)
@@ -242,7 +242,7 @@ same_log a number i slot h e = places a (number % 256) i slot (below_slots numbe
         rest : (x y : ℕ) → x ≡ y → x ≡ y
         rest x y e = e
 
-server_low : (a : ℕ) → IsTrue (is_server a) → a < 256
+pub server_low : (a : ℕ) → IsTrue (is_server a) → a < 256
 server_low a server = small a (ltb-true a 16 server)
   where
     small : (n : ℕ) → n < 16 → n < 256
@@ -251,15 +251,15 @@ server_low a server = small a (ltb-true a 16 server)
 -- ---- a write arrives in time
 
 -- what is known of it
-record Arriving (s : State) (f : Flight) : Type 0 where
-  placed : Placed f
-  of_log : (number : ℕ) → f.purpose ≡ OfLog number → f.sector ≡ log_sector disk_logs f.server number
-  not_off : (a : ℕ) → IsTrue (is_server a) → IsTrue (is_off (s.core.servers a).phase) → f.server ≡ a → ⊥
-  not_dead : (by : ℕ) (r : Recovery) → IsTrue (is_worker s.core by) → (s.core.servers by).recovery ≡ Some r → f.server ≡ r.dead → ⊥
-  for_dead : f.purpose ≡ OfRecovery → IsTrue (is_dead (s.core.servers f.behalf).phase)
-  of_its_own : f.purpose ≡ OfRecovery → (by : ℕ) (r : Recovery) → IsTrue (is_worker s.core by) → (s.core.servers by).recovery ≡ Some r → f.behalf ≡ r.dead →
+pub record Arriving (s : State) (f : Flight) : Type 0 where
+  pub placed : Placed f
+  pub of_log : (number : ℕ) → f.purpose ≡ OfLog number → f.sector ≡ log_sector disk_logs f.server number
+  pub not_off : (a : ℕ) → IsTrue (is_server a) → IsTrue (is_off (s.core.servers a).phase) → f.server ≡ a → ⊥
+  pub not_dead : (by : ℕ) (r : Recovery) → IsTrue (is_worker s.core by) → (s.core.servers by).recovery ≡ Some r → f.server ≡ r.dead → ⊥
+  pub for_dead : f.purpose ≡ OfRecovery → IsTrue (is_dead (s.core.servers f.behalf).phase)
+  pub of_its_own : f.purpose ≡ OfRecovery → (by : ℕ) (r : Recovery) → IsTrue (is_worker s.core by) → (s.core.servers by).recovery ≡ Some r → f.behalf ≡ r.dead →
       IsOpen disk_logs s.core.setting.segments r f.sector f.block
-  looked : (by : ℕ) (r : Recovery) → (s.core.servers by).recovery ≡ Some r → InTurn disk_logs s.core.setting.segments r × (r.dead < 256)
+  pub looked : (by : ℕ) (r : Recovery) → (s.core.servers by).recovery ≡ Some r → InTurn disk_logs s.core.setting.segments r × (r.dead < 256)
 
 module _ (s : State) (f : Flight) (k : Arriving s f) where
   -- not where a mount reads
@@ -376,7 +376,7 @@ acknowledged_held disk i sector block OfRecovery server h = record { high = h.hi
 
 -- ---- lines
 
-put_slot : (slots : SlotsRead) (k slot : ℕ) (block b : Block) → value_at (with_value slots k block) slot ≡ Some b → ((k ≡ slot) × (block ≡ b)) ⊎ (value_at slots slot ≡ Some b)
+pub put_slot : (slots : SlotsRead) (k slot : ℕ) (block b : Block) → value_at (with_value slots k block) slot ≡ Some b → ((k ≡ slot) × (block ≡ b)) ⊎ (value_at slots slot ≡ Some b)
 put_slot slots k slot block b e = go (is_at (nat_cmp slot) k) refl (sym (lookup-insert_entry nat_cmp_total k block slot slots) ∙ e)
   where
     go : (t : Bool) → is_at (nat_cmp slot) k ≡ t → (if t then Some block else value_at slots slot) ≡ Some b → ((k ≡ slot) × (block ≡ b)) ⊎ (value_at slots slot ≡ Some b)
@@ -440,11 +440,11 @@ module _ (s : State) (rules : s.core.setting.logs ≡ disk_logs) (a : ℕ) (h : 
 -- ---- each step
 
 -- what is known of the state before a step
-record Facts (s : State) : Type 0 where
-  rules : s.core.setting.logs ≡ disk_logs
-  safe : Safe s.core.servers
-  looked : (by : ℕ) (r : Recovery) → (s.core.servers by).recovery ≡ Some r → InTurn s.core.setting.logs s.core.setting.segments r × (r.dead < 256)
-  arriving : (one : ℕ × Flight) → Among one s.core.flights → s.core.now ≤ one.1.stamp → Placed one.1 → Arriving s one.1
+pub record Facts (s : State) : Type 0 where
+  pub rules : s.core.setting.logs ≡ disk_logs
+  pub safe : Safe s.core.servers
+  pub looked : (by : ℕ) (r : Recovery) → (s.core.servers by).recovery ≡ Some r → InTurn s.core.setting.logs s.core.setting.segments r × (r.dead < 256)
+  pub arriving : (one : ℕ × Flight) → Among one s.core.flights → s.core.now ≤ one.1.stamp → Placed one.1 → Arriving s one.1
 
 put_held : (disk : Sectors) (servers : ℕ → Server) (a : ℕ) (new : Server) → HeldBy disk a new → ((i : ℕ) → HeldBy disk i (servers i)) → (i : ℕ) → HeldBy disk i (put servers a new i)
 put_held disk servers a new here all i = at_put (λ x. HeldBy disk i x) servers a new i (λ e. subst (λ k. HeldBy disk k new) (sym e) here) (λ n. all i)
@@ -785,10 +785,10 @@ module _ (ends : LeasesEnd) (script : List Line) (segments number : ℕ) (disk :
           itself : (x y : ℕ) → x ≡ y → (x == y) ≡ true
           itself x y e = grind (arith, nat_tests, e)
 
-    facts_of : Facts s
+    pub facts_of : Facts s
     facts_of = record { rules = rules; safe = good_of_run setting disk s run; looked = turn_of; arriving = λ one i early placed. arriving_of one i early placed }
 
-  reads_of_run : (s : State) → Run (first_state setting disk) s → Reads s.core.servers s.core.flights s.disk
+  pub reads_of_run : (s : State) → Run (first_state setting disk) s → Reads s.core.servers s.core.flights s.disk
   reads_of_run =
       along setting disk (λ s. Reads s.core.servers s.core.flights s.disk) (λ s v run step m. reads_turn s (work_of v) (step_turn s v step) (facts_of s run) m)
       (record { held = λ i. held_nothing disk i Off; placed = tt })

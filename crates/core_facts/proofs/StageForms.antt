@@ -14,7 +14,7 @@ use Rattle.cache_definitions.specs.Caches.{Cache}
 use Rattle.set_definitions.specs.Seen.{Comparison, HasMoved, HasStopped, HasGoneThrough, SeenSectors, compared, seen_more}
 use Rattle.set_definitions.specs.Sets.{LockSet, has_lock, lacks, next_segment, to_ask}
 use Rattle.core_definitions.specs.Lines.{Stage, Asking, Fetching, Moving, Stopping, Growing, Clearing, Finishing, Under, missing_bitmaps, needed_mode, needing, once_through, operation_of, or_grown, sole_segment, stage_asked, stage_by, stage_held, stage_over}
-use Rattle.core_definitions.specs.Plans.{Sight, clear_needs, cover_of, examined_in, finish_needs, nodes_looked_at, outcome_of, planned, program_of, sight_of}
+use Rattle.core_definitions.specs.Plans.{Sight, clear_needs, examined_in, finish_needs, needed_cover, nodes_looked_at, outcome_of, planned, program_of, sight_of}
 use Rattle.core_definitions.specs.Servers.{Server, asks, is_up, stage_of, stage_under, stage_with}
 use Rattle.core_definitions.specs.Settings.{Setting}
 
@@ -58,7 +58,7 @@ module _ (Q : Sight → Type 0) (P : Stage → Type 0) (each : OfEachForm Q P) w
 
   by_plan : (setting : Setting) (line : Line) (operation : Op) (sight : Sight) → Q sight → (set : LockSet) (next : Option ℕ) (comparison : Comparison) (seen : SeenSectors) (nodes : List ℕ) (met : Met Plan) →
       P (stage_by setting line operation sight set next comparison seen nodes met)
-  by_plan setting line operation sight q set next comparison seen nodes (Needs sector) = of_needing comparison set seen sector (cover_of nodes sight sector)
+  by_plan setting line operation sight q set next comparison seen nodes (Needs sector) = of_needing comparison set seen sector (needed_cover setting.segments nodes sight sector)
   by_plan setting line operation sight q set next comparison seen nodes (Has Lacks) = once comparison (Growing (sole_segment next) seen) (each.next next seen)
   by_plan setting line operation sight q set next comparison seen nodes (Has (Clears block locks)) =
       once comparison (or_grown set (clear_needs operation nodes sight block) seen (Clearing block))

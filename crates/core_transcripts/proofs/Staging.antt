@@ -15,7 +15,7 @@ use Rattle.disk_definitions.specs.Written.{hand_of}
 use Rattle.cache_definitions.specs.Caches.{Cache}
 use Rattle.set_definitions.specs.Seen.{Comparison, HasMoved, HasStopped, HasGoneThrough, SeenSectors, compared, seen_more}
 use Rattle.core_definitions.specs.Lines.{Stage, Asking, Fetching, Moving, Stopping, Growing, Clearing, Finishing, Under, missing_bitmaps, needed_mode, needing, once_through, or_grown, sole_segment, stage_asked, stage_at, stage_by, stage_held, stage_over}
-use Rattle.core_definitions.specs.Plans.{Outcome, Sight, clear_needs, cover_of, examined_in, finish_needs, known_in, nodes_looked_at, outcome_of, planned, program_of, sight_of}
+use Rattle.core_definitions.specs.Plans.{Outcome, Sight, clear_needs, examined_in, finish_needs, known_in, needed_cover, nodes_looked_at, outcome_of, planned, program_of, sight_of}
 use Rattle.set_definitions.specs.Sets.{LockSet, has_lock, lacks, next_segment, to_ask}
 use Rattle.core_definitions.specs.Settings.{Setting}
 use Rattle.core_transcripts.proofs.Always.{Always, always_met}
@@ -49,7 +49,7 @@ module _ (setting : Setting) (P : Stage → Type 0) (Q : Plan → Type 0) (askin
         go false = through comparison (Growing ((cover, needed_mode cover) ∷ []) seen) (growing ((cover, needed_mode cover) ∷ []) seen)
 
     by_plan : (met : Met Plan) → ((plan : Plan) → met ≡ Has plan → Q plan) → P (stage_by setting line operation sight set next comparison seen nodes met)
-    by_plan (Needs sector) q = needs_so (number_of sector) (cover_of nodes sight sector)
+    by_plan (Needs sector) q = needs_so (number_of sector) (needed_cover setting.segments nodes sight sector)
     by_plan (Has Lacks) q = through comparison (Growing (sole_segment next) seen) (growing (sole_segment next) seen)
     by_plan (Has (Clears block locks)) q =
         through comparison (or_grown set (clear_needs operation nodes sight block) seen (Clearing block))

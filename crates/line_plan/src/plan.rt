@@ -7,6 +7,7 @@ ghost use Rattle.dir_lookup.specs.Hands.{over, seen};
 ghost use Rattle.dir_lookup.specs.Reading.{Gives};
 ghost use Rattle.plan_steps.specs.Ends as plans;
 ghost use Rattle.plan_steps.specs.Looking.{Looks, UnlessNoMemory};
+ghost use Rattle.line_plan.specs.Disks.{LineIsExact, LineStands};
 ghost use Rattle.line_plan.specs.Ends.{ClearsFor, Comes};
 ghost use Rattle.line_plan.specs.Lines.{StepFits, TargetFits, resolved_by, step_by};
 
@@ -25,8 +26,29 @@ use tree_definitions::Target;
 /// planned, with the birth of its new node and the time `when`. It is done with a reply and the edits that make it, none where it is refused; or it
 /// needs a sector, the first that it looks at and that isn't cached, walks included, or more segments, or a clear block. An operation without a path is
 /// done as it stands. The target of a symbolic link may stand in an inode. What it looked at, walks included, comes to `looked`, in order, before a
-/// sector that isn't cached too. Its one refusal is want of memory.
+/// sector that isn't cached too. Over sectors and bitmaps of a disk that stands for a tree the line stands: its reply is the tree's, and so is what its
+/// edits leave; and it needs a sector, lacks segments or has a block cleared exactly where the tree and what is at hand ask for it. Its one refusal is
+/// want of memory.
 pub fn plan_line(
+    alloc: Global,
+    hand: &Hand,
+    birth: u64,
+    when: u64,
+    op: &Op,
+    looked: &mut Looked,
+) -> Result<LineEnd, NoMemory>
+    requires { TargetFits op.now }
+    ensures looks { OnOk result (Looks hand.now.sectors.now.entries hand.now.held.now looked.old looked.new (plan_of_line (seen hand.now) birth when op.now)) }
+    ensures comes { Comes (over (plan_of_line (seen hand.now) birth when op.now) hand.now) result }
+    ensures clears { IfOk result (ClearsFor (over (resolved op.now) hand.now)) }
+    ensures stands { IfOk result (LineStands op.now birth when hand.now.sectors.now.entries hand.now.held.now hand.now.all) }
+    ensures exact { IfOk result (LineIsExact op.now birth when hand.now.sectors.now.entries hand.now.held.now hand.now.all) }
+{
+    plan_over_walks(alloc, hand, birth, when, op, looked)
+}
+
+// Its paths are resolved, and then it is planned.
+fn plan_over_walks(
     alloc: Global,
     hand: &Hand,
     birth: u64,

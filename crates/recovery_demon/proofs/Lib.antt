@@ -9,3 +9,4 @@ pub mod Parts
 pub mod Tied
 pub mod Beginning
 pub mod Stepping
+pub mod Low

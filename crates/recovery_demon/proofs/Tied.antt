@@ -1,8 +1,9 @@
 -- A recovery with a replay and one without, as they are seen.
-use Rattle.std.proofs.Common.{◌≡◌, ◌<◌, ℕ, Bool, true, false, not, ◌&&◌, [], Option, Some, None, nat_lt, refl, sym, ap, ◌∙◌, subst}
+use Rattle.std.proofs.Common.{◌≡◌, ◌<◌, ℕ, Bool, true, false, not, ◌&&◌, List, [], Option, Some, None, nat_lt, refl, sym, ap, ◌∙◌, subst}
 use Rattle.std.proofs.lemmas.Bool.{and_parts, false≢true, ltb-true}
 use Rattle.std.specs.Option.{IfSome}
-use Rattle.sector_bytes.specs.SectorMaps.{Spacious}
+use Rattle.std.specs.List.Sorted.{IsStrictlySortedBy}
+use Rattle.sector_bytes.specs.SectorMaps.{Ascend, Spacious}
 use Rattle.sector_bytes.specs.Blocks.{Block}
 use Rattle.core_definitions.specs.Logs.{SlotsRead}
 use Rattle.recovery_demon.specs.Inside.{AreTied, IsBegun, IsTied, flying_in, looked_in, recovering_of, written_in}
@@ -62,6 +63,18 @@ if_there {X} P o x e h = let Q : Option X → Type 0 = λ p. IfSome p P in subst
 -- one that isn't opened has no write in flight
 pub none_issued : (dead segments : ℕ) (slots : Spacious Block) (o : Option Kept) (value : Recovering) → o ≡ None → recovering_of dead segments slots o ≡ value → value.issued ≡ []
 none_issued dead segments slots o value is seen = ap (λ (d : Recovering). d.issued) (sym (ap (recovering_of dead segments slots) (sym is) ∙ seen))
+
+-- and nothing was looked at, which ascends
+pub none_looked : (dead segments : ℕ) (slots : Spacious Block) (o : Option Kept) (value : Recovering) → o ≡ None → recovering_of dead segments slots o ≡ value → value.recovery.looked ≡ []
+none_looked dead segments slots o value is seen = ap (λ (d : Recovering). d.recovery.looked) (sym (ap (recovering_of dead segments slots) (sym is) ∙ seen))
+
+pub nothing_ascends : (looked : List (ℕ × Option Block)) → looked ≡ [] → Ascend looked
+unfolding IsStrictlySortedBy
+nothing_ascends looked none =
+    let P : List (ℕ × Option Block) → Type 0 = λ xs. Ascend xs in
+    let nothing : List (ℕ × Option Block) = [] in
+    let empty : Ascend nothing = tt in
+    subst P (sym none) empty
 
 -- a replay at its beginning wants what is seen of a recovery without one
 pub begun_as : (dead segments : ℕ) (slots : Spacious Block) (o : Option Kept) (value : Recovering) (r : Replaying) → recovering_of dead segments slots o ≡ value → value.recovery.looked ≡ [] → value.recovery.written ≡ [] →

@@ -1,12 +1,12 @@
 // The recovery of a log.
-ghost use Rattle.std.specs.Prelude.{◌≡◌, ◌≤◌, ◌++◌, [], None, true, false, is_some, IfOk, IfSome, IsSome, IsTrue, OnOk};
+ghost use Rattle.std.specs.Prelude.{◌≡◌, ◌≤◌, ◌<◌, ◌^◌, ◌++◌, ℕ, [], None, true, false, is_some, IfOk, IfSome, IsSome, IsTrue, OnOk};
 ghost use Rattle.std.specs.List.{slice_get};
 ghost use Rattle.std.specs.Map.{keys_of};
 ghost use Rattle.std.specs.Option.{option_copied, option_map};
 ghost use Rattle.std.specs.Ordering.{nat_cmp};
 ghost use Rattle.frang_base.specs.Functions.{member};
 ghost use Rattle.frang_base.specs.declared.limits.TheConstants.{SEGMENTS_MAX};
-ghost use Rattle.sector_bytes.specs.SectorMaps.{value_at, with_value, without};
+ghost use Rattle.sector_bytes.specs.SectorMaps.{Ascend, value_at, with_value, without};
 ghost use Rattle.core_definitions.specs.EndEffects.{slot_loaded};
 ghost use Rattle.core_definitions.specs.Recoveries.{recovery_of};
 ghost use Rattle.core_definitions.specs.WriteEffects.{acknowledged_for};
@@ -258,6 +258,19 @@ impl Demon {
     {
         match &self.replay {
             Some(replay) => replay.is_issued(sector),
+            None => false,
+        }
+    }
+
+    /// Whether the sector was looked at. The sectors that were ascend, and those to write are below 2^40.
+    pub fn has_looked(&self, sector: Sector) -> bool
+        requires { IsTrue self.now.is_fresh }
+        ensures looked { result ≡ is_some (value_at self.now.recovery.looked sector.0) }
+        ensures ordered { Ascend self.now.recovery.looked }
+        ensures low { (sector : ℕ) → is_some (value_at (writes_wanted self.now.segments self.now.recovery self.now.issued) sector) ≡ true → sector < 2 ^ 40 }
+    {
+        match &self.replay {
+            Some(replay) => replay.has_looked(sector),
             None => false,
         }
     }

@@ -291,6 +291,13 @@ impl Replay {
         self.flying.get(&sector.0).is_some()
     }
 
+    /// Whether the sector was looked at.
+    pub(crate) fn has_looked(&self, sector: Sector) -> bool
+        ensures { result ≡ is_some (value_at self.now.replay.looked sector.0) }
+    {
+        self.looked.get(&sector.0).is_some()
+    }
+
     /// Whether all is done.
     pub(crate) fn is_over(&self) -> bool
         ensures { result ≡ is_over self.now.replay.stage }

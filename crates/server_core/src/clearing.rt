@@ -43,6 +43,7 @@ fn set_zeros(cache: &mut Cache, sectors: &[Sector], mark: u64, segment: u32)
     requires { length sectors.now ≤ cache.old.spare }
     ensures entries { cache.new.entries ≡ fold (zeroed mark segment) cache.old.entries (numbers_of sectors.now) }
     ensures staying { cache.new.staying ≡ cache.old.staying }
+    ensures flying { cache.new.flying ≡ cache.old.flying }
     ensures spare { cache.old.spare ≤ cache.new.spare + length sectors.now }
 {
     for sector in sectors {
@@ -57,6 +58,7 @@ impl Server {
         requires cached { SMALL_BLOCK_SECTORS ≤ self.old.spare }
         requires pending { SMALL_BLOCK_SECTORS ≤ self.old.zeros }
         ensures server { self.new.server ≡ cleared_at block self.old.server }
+        ensures flying { self.new.flying ≡ self.old.flying }
         ensures room { KeepsRoomBut (record { spare = SMALL_BLOCK_SECTORS; sectors = 0; names = 0; zeros = SMALL_BLOCK_SECTORS }) self.old self.new }
     {
         let sectors = block_sectors(block);

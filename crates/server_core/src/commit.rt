@@ -1,6 +1,7 @@
 // A commit: changes, record and answer at once.
 ghost use Rattle.std.specs.Prelude.{◌≡◌, ◌≤◌, ◌<◌, ◌-◌, true, IsTrue, Some, length};
 ghost use Rattle.frang_base.specs.declared.limits.TheConstants.{LOG_NUMBERS_END};
+ghost use Rattle.cache_definitions.specs.Flags.{but_all};
 ghost use Rattle.clerk_cache.specs.Dropping.{numbers_of};
 ghost use Rattle.ring_definitions.specs.Rings as rings;
 ghost use Rattle.ring_definitions.specs.Rings.{appended, is_record};
@@ -40,6 +41,7 @@ impl Server {
         requires { MayCommit self.old outcome }
         ensures server { (of_core : core.Outcome) → IsOutcome self.old.server.cache outcome of_core → self.new.server ≡ committed_by of_core self.old.server }
         ensures reply { result ≡ outcome.reply }
+        ensures flying { self.new.flying ≡ but_all (numbers_of outcome.freed) self.old.flying }
         ensures room { KeepsRoomBut (room_for self.old outcome) self.old self.new }
     {
         self.append_some(&outcome.redo);
@@ -52,6 +54,7 @@ impl Server {
         requires changes { MayLay self.old.server.cache (changes_of outcome.now.redo) }
         requires bytes { length outcome.now.bytes.items ≤ self.old.spare }
         ensures server { (of_core : core.Outcome) → IsOutcome self.old.server.cache outcome.now of_core → self.new.server ≡ changed_by_commit of_core (numbers_of outcome.now.freed) self.old.server }
+        ensures flying { self.new.flying ≡ but_all (numbers_of outcome.now.freed) self.old.flying }
         ensures room { KeepsRoomBut (record { spare = length outcome.now.bytes.items; sectors = 0; names = 0; zeros = 0 }) self.old self.new }
     {
         let mark = self.last_number();
@@ -64,6 +67,7 @@ impl Server {
         requires mounted { is_in_mount self.old.server.phase ≡ true }
         requires record { MayAppendSome self.old redo.now }
         ensures server { self.new.server ≡ record self.old.server { ring = appended_some self.old.server.ring redo.now } }
+        ensures flying { self.new.flying ≡ self.old.flying }
         ensures room { KeepsRoomBut (record { spare = 0; sectors = needed_for self.old.server.ring redo.now; names = names_for redo.now; zeros = 0 }) self.old self.new }
     {
         if let Some(redo) = redo {
@@ -76,6 +80,7 @@ impl Server {
         requires mounted { is_in_mount self.old.server.phase ≡ true }
         requires record { MayAppend self.old redo.now }
         ensures server { self.new.server ≡ record self.old.server { ring = appended self.old.server.ring redo.now } }
+        ensures flying { self.new.flying ≡ self.old.flying }
         ensures room { KeepsRoomBut (record { spare = 0; sectors = rings.need self.old.server.ring redo.now; names = names_for (Some redo.now); zeros = 0 }) self.old self.new }
     {
         match &mut self.ring {

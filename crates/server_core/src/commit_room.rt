@@ -66,6 +66,7 @@ impl Server {
         requires { is_in_mount self.old.server.phase ≡ true }
         ensures server { self.new.server ≡ self.old.server }
         ensures ok { OnOk result (MayCommit self.new outcome.now) }
+        ensures flying { self.new.flying ≡ self.old.flying }
         ensures room { KeepsRoom self.old self.new }
     {
         self.reserve_sectors(outcome.bytes.len())?;
@@ -77,6 +78,7 @@ impl Server {
         requires { is_in_mount self.old.server.phase ≡ true }
         ensures server { self.new.server ≡ self.old.server }
         ensures ok { OnOk result (MayAppendSome self.new redo.now) }
+        ensures flying { self.new.flying ≡ self.old.flying }
         ensures room { KeepsRoom self.old self.new }
     {
         match redo {
@@ -90,6 +92,7 @@ impl Server {
         requires { is_in_mount self.old.server.phase ≡ true }
         ensures server { self.new.server ≡ self.old.server }
         ensures ok { OnOk result (MayAppend self.new redo.now) }
+        ensures flying { self.new.flying ≡ self.old.flying }
         ensures room { KeepsRoom self.old self.new }
     {
         if !are_older(&self.cache, redo.changes.as_slice()) {

@@ -20,6 +20,7 @@ use frang_base::{Change, LockId, Redo, Sector};
 fn move_cover(cache: &mut Cache, sector: Sector, cover: LockId)
     ensures entries { cache.new.entries ≡ with_cover cache.old.entries sector.0 cover }
     ensures staying { cache.new.staying ≡ cache.old.staying }
+    ensures flying { cache.new.flying ≡ cache.old.flying }
     ensures spare { cache.new.spare ≡ cache.old.spare }
 {
     match cache.cover(sector) {
@@ -32,6 +33,7 @@ fn move_cover(cache: &mut Cache, sector: Sector, cover: LockId)
 fn move_covers(cache: &mut Cache, moves: &[(Sector, LockId)])
     ensures entries { cache.new.entries ≡ with_covers cache.old.entries (moves_of moves.now) }
     ensures staying { cache.new.staying ≡ cache.old.staying }
+    ensures flying { cache.new.flying ≡ cache.old.flying }
     ensures spare { cache.new.spare ≡ cache.old.spare }
 {
     for entry in moves {
@@ -45,6 +47,7 @@ fn lay_change(cache: &mut Cache, change: &Change, mark: u64)
     requires older { IsOlder (block_at cache.old.entries change.now.sector.0) change.now }
     ensures entries { cache.new.entries ≡ with_own mark cache.old.entries change.now }
     ensures staying { cache.new.staying ≡ cache.old.staying }
+    ensures flying { cache.new.flying ≡ cache.old.flying }
     ensures spare { cache.new.spare ≡ cache.old.spare }
 {
     match cache.cover(change.sector) {
@@ -58,6 +61,7 @@ fn lay_changes(cache: &mut Cache, changes: &[Change], mark: u64)
     requires { MayLay cache.old.entries changes.now }
     ensures entries { cache.new.entries ≡ with_changes mark cache.old.entries changes.now }
     ensures staying { cache.new.staying ≡ cache.old.staying }
+    ensures flying { cache.new.flying ≡ cache.old.flying }
     ensures spare { cache.new.spare ≡ cache.old.spare }
 {
     for change in changes {
@@ -81,6 +85,7 @@ fn change_sectors(cache: &mut Cache, moves: &[(Sector, LockId)], changes: &[Chan
     ensures entries { cache.new.entries ≡ each_cached (changed_sector mark changes.now (moves_of moves.now)) cache.old.entries }
     ensures ordered { Ascend cache.old.entries }
     ensures staying { cache.new.staying ≡ cache.old.staying }
+    ensures flying { cache.new.flying ≡ cache.old.flying }
     ensures spare { cache.new.spare ≡ cache.old.spare }
 {
     covers_move_sector_by_sector();
@@ -96,6 +101,7 @@ fn set_bytes(cache: &mut Cache, bytes: &[BytesSet], mark: u64)
     requires { length bytes.now ≤ cache.old.spare }
     ensures entries { cache.new.entries ≡ fold (with_bytes mark) cache.old.entries (map bytes_of bytes.now) }
     ensures staying { cache.new.staying ≡ cache.old.staying }
+    ensures flying { cache.new.flying ≡ cache.old.flying }
     ensures spare { cache.old.spare ≤ cache.new.spare + length bytes.now }
 {
     for set in bytes {
@@ -109,6 +115,7 @@ pub(crate) fn commit_cache(cache: &mut Cache, outcome: &Outcome, mark: u64)
     requires bytes { length outcome.now.bytes.items ≤ cache.old.spare }
     ensures entries { (of_core : core.Outcome) → IsOutcome cache.old.entries outcome.now of_core → cache.new.entries ≡ cache_after mark of_core cache.old.entries }
     ensures staying { cache.new.staying ≡ but_all (numbers_of outcome.now.freed) cache.old.staying }
+    ensures flying { cache.new.flying ≡ but_all (numbers_of outcome.now.freed) cache.old.flying }
     ensures spare { cache.old.spare ≤ cache.new.spare + length outcome.now.bytes.items }
 {
     change_sectors(cache, &outcome.moves, changes_of(&outcome.redo), mark);

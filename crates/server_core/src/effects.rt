@@ -6,6 +6,7 @@ ghost use Rattle.disk_definitions.specs.Regions.{sector_of};
 ghost use Rattle.disk_definitions.specs.declared.region.Region.TheVariants as region;
 ghost use Rattle.sector_bytes.specs.SectorMaps.{room_for, with_value};
 ghost use Rattle.cache_definitions.specs.Caches.{any_cached, clean, dirty_sectors, dropped, is_dirty_at, is_dirty_under, mark_at, still_has};
+ghost use Rattle.cache_definitions.specs.Flags.{among_cached, but, with_cached};
 ghost use Rattle.ring_definitions.specs.Rings as rings;
 ghost use Rattle.ring_definitions.specs.Rings.{reclaimed_of};
 ghost use Rattle.set_definitions.specs.Sets.{first_set};
@@ -33,6 +34,7 @@ fn drop_clean(cache: &mut Cache, lock: LockId)
     requires { any_cached (is_dirty_under lock) cache.old.entries ≡ false }
     ensures entries { cache.new.entries ≡ dropped cache.old.entries lock }
     ensures staying { cache.new.staying ≡ cache.old.staying }
+    ensures flying { cache.new.flying ≡ among_cached cache.new.entries cache.old.flying }
     ensures spare { cache.old.spare ≤ cache.new.spare }
 {
     match cache.drop_cover(lock) {
@@ -45,6 +47,7 @@ fn drop_clean(cache: &mut Cache, lock: LockId)
 fn want_all(cache: &mut Cache)
     ensures entries { cache.new.entries ≡ cache.old.entries }
     ensures staying { cache.new.staying ≡ ascending (cache.old.staying ++ dirty_sectors cache.old.entries) }
+    ensures flying { cache.new.flying ≡ cache.old.flying }
     ensures spare { cache.new.spare ≡ cache.old.spare }
 {
     cache.want_all();
@@ -56,6 +59,7 @@ fn set_clean(cache: &mut Cache, sector: Sector, block: Block, cover: LockId)
     requires clean { is_dirty_at cache.old.entries sector.0 ≡ false }
     ensures entries { cache.new.entries ≡ with_value cache.old.entries sector.0 (clean block cover) }
     ensures staying { cache.new.staying ≡ cache.old.staying }
+    ensures flying { cache.new.flying ≡ cache.old.flying }
     ensures spare { cache.new.spare + room_for cache.old.entries sector.0 ≡ cache.old.spare }
 {
     let _stays = cache.stays(sector);
@@ -69,6 +73,7 @@ impl Server {
     pub fn drop_under(&mut self, lock: LockId)
         requires { any_cached (is_dirty_under lock) self.old.server.cache ≡ false }
         ensures server { self.new.server ≡ record self.old.server { cache = dropped self.old.server.cache lock } }
+        ensures flying { self.new.flying ≡ among_cached self.new.server.cache self.old.flying }
         ensures room { KeepsRoom self.old self.new }
     {
         drop_clean(&mut self.cache, lock);
@@ -77,6 +82,7 @@ impl Server {
     /// It wants everything: each sector that is dirty stays wanted until it is clean, and the log up to its last number. Such a wish joins the one before.
     pub fn want_all(&mut self)
         ensures server { self.new.server ≡ wanting_all self.old.server }
+        ensures flying { self.new.flying ≡ self.old.flying }
         ensures room { KeepsRoom self.old self.new }
     {
         want_all(&mut self.cache);
@@ -91,6 +97,7 @@ impl Server {
     pub fn issued(&mut self, purpose: Purpose)
         requires { IsNext self.old.server.ring (purpose_of purpose) }
         ensures server { self.new.server ≡ record self.old.server { ring = ring_after (purpose_of purpose) self.old.server.ring; arming = counted self.old.server.arming } }
+        ensures flying { self.new.flying ≡ self.old.flying }
         ensures room { KeepsRoom self.old self.new }
     {
         if let Purpose::OfLog(number) = purpose {
@@ -99,10 +106,20 @@ impl Server {
         self.count_issue();
     }
 
+    /// A write of a sector is in flight, or no longer: where the sector is cached, that is kept of it. It takes no memory.
+    pub fn set_flies(&mut self, sector: Sector, flies: bool)
+        ensures server { self.new.server ≡ self.old.server }
+        ensures flying { self.new.flying ≡ (if flies then with_cached self.old.server.cache sector.0 self.old.flying else but sector.0 self.old.flying) }
+        ensures room { KeepsRoom self.old self.new }
+    {
+        self.cache.set_flies(sector, flies);
+    }
+
     // The next sector of its log is issued.
     fn log_sector_issued(&mut self, number: u64)
         requires { IsSomeAnd (rings.next_sector self.old.server.ring) (λ next. next.0 ≡ number) }
         ensures server { self.new.server ≡ record self.old.server { ring = rings.issued self.old.server.ring } }
+        ensures flying { self.new.flying ≡ self.old.flying }
         ensures room { KeepsRoom self.old self.new }
     {
         match &mut self.ring {
@@ -114,6 +131,7 @@ impl Server {
     // A write less is left before it dies, where it is armed.
     fn count_issue(&mut self)
         ensures server { self.new.server ≡ record self.old.server { arming = counted self.old.server.arming } }
+        ensures flying { self.new.flying ≡ self.old.flying }
         ensures room { KeepsRoom self.old self.new }
     {
         if let Some(arming) = &mut self.arming {
@@ -125,6 +143,7 @@ impl Server {
     /// has this block of it and its mark is reached. One of its recovery changes nothing here, since that is kept beside it.
     pub fn acknowledged(&mut self, sector: Sector, block: &Block, purpose: Purpose)
         ensures server { self.new.server ≡ acknowledged sector.0 block.now (purpose_of purpose) self.old.server }
+        ensures flying { self.new.flying ≡ self.old.flying }
         ensures room { KeepsRoom self.old self.new }
     {
         match purpose {
@@ -144,6 +163,7 @@ impl Server {
     // A number of its log is acknowledged.
     fn number_acknowledged(&mut self, number: u64)
         ensures server { self.new.server ≡ record self.old.server { ring = rings.acked self.old.server.ring number } }
+        ensures flying { self.new.flying ≡ self.old.flying }
         ensures room { KeepsRoom self.old self.new }
     {
         if let Some(ring) = &mut self.ring {
@@ -154,6 +174,7 @@ impl Server {
     // A sector was written in place.
     fn place_acknowledged(&mut self, sector: Sector, block: &Block)
         ensures server { self.new.server ≡ (if comes_clean self.old.server sector.0 block.now then clean_now sector.0 self.old.server else self.old.server) }
+        ensures flying { self.new.flying ≡ self.old.flying }
         ensures room { KeepsRoom self.old self.new }
     {
         if self.comes_clean(sector, block) {
@@ -192,6 +213,7 @@ impl Server {
     fn clean(&mut self, sector: Sector, block: &Block)
         requires { still_has self.old.server.cache sector.0 block.now ≡ true }
         ensures server { self.new.server ≡ clean_now sector.0 self.old.server }
+        ensures flying { self.new.flying ≡ self.old.flying }
         ensures room { KeepsRoom self.old self.new }
     {
         self.cache.clean(sector, block);
@@ -214,6 +236,7 @@ impl Server {
         requires room { room_for self.old.server.cache sector.0 ≤ self.old.spare }
         requires clean { is_dirty_at self.old.server.cache sector.0 ≡ false }
         ensures server { self.new.server ≡ cached_under self.old.server sector.0 block (Some cover) }
+        ensures flying { self.new.flying ≡ self.old.flying }
         ensures room { KeepsRoomBut (record { spare = room_for self.old.server.cache sector.0; sectors = 0; names = 0; zeros = 0 }) self.old self.new }
     {
         set_clean(&mut self.cache, sector, block, cover);
@@ -224,6 +247,7 @@ impl Server {
         requires slot { IsSlot self.old.id sector.0 }
         requires room { 0 < self.old.slots }
         ensures server { self.new.server ≡ with_under self.old.server (slot_read self.old.id sector.0 block.now) }
+        ensures flying { self.new.flying ≡ self.old.flying }
         ensures room { KeepsRoom self.old self.new }
     {
         let slot = self.slot_of(sector);
@@ -247,6 +271,7 @@ impl Server {
     /// A get failed under its mount line, and is kept with it.
     pub fn get_refused(&mut self)
         ensures server { self.new.server ≡ with_under self.old.server refused_under }
+        ensures flying { self.new.flying ≡ self.old.flying }
         ensures room { KeepsRoom self.old self.new }
     {
         if let Some(under) = &mut self.under {
@@ -262,6 +287,7 @@ impl Server {
     pub fn line_anew(&mut self, first: LockSet)
         requires { first ≡ first_set }
         ensures server { self.new.server ≡ with_under self.old.server set_anew }
+        ensures flying { self.new.flying ≡ self.old.flying }
         ensures room { KeepsRoom self.old self.new }
     {
         let alloc = self.alloc;
@@ -273,6 +299,7 @@ impl Server {
     /// The set of its line has grown to this one, and it has seen these sectors.
     pub fn line_grown(&mut self, set: LockSet, seen: SeenSectors)
         ensures server { (needs : List Lock) → GrowsTo self.old.server.under needs set → self.new.server ≡ with_under self.old.server (set_grown needs seen) }
+        ensures flying { self.new.flying ≡ self.old.flying }
         ensures room { KeepsRoom self.old self.new }
     {
         if let Some(under) = &mut self.under {
@@ -283,6 +310,7 @@ impl Server {
     /// Its log gives up its oldest records, as far as their sectors are issued. That what they name stands on the disk was seen before.
     pub fn reclaim(&mut self)
         ensures server { self.new.server ≡ record self.old.server { ring = reclaimed_of disk_logs.quarter self.old.server.ring } }
+        ensures flying { self.new.flying ≡ self.old.flying }
         ensures room { KeepsRoom self.old self.new }
     {
         if let Some(ring) = &mut self.ring {

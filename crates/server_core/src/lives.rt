@@ -1,5 +1,5 @@
 // What becomes of a server: its line, its lease, what it wants, and its lives.
-ghost use Rattle.std.specs.Prelude.{◌≡◌, ◌≤◌, ◌+◌, not, Some, None, true};
+ghost use Rattle.std.specs.Prelude.{◌≡◌, ◌≤◌, ◌+◌, [], not, Some, None, true};
 ghost use Rattle.std.specs.Option.{option_map};
 ghost use Rattle.frang_base.specs.declared.limits.TheConstants.{LAST_TICK, LEASE_TICKS};
 ghost use Rattle.cache_definitions.specs.Caches.{any_cached, is_dirty_under};
@@ -27,6 +27,7 @@ impl Server {
     /// A line is under way from now on.
     pub fn begin(&mut self, under: Under)
         ensures server { self.new.server ≡ record self.old.server { under = Some under.under } }
+        ensures flying { self.new.flying ≡ self.old.flying }
         ensures room { KeepsRoom self.old self.new }
     {
         self.under = Some(under);
@@ -35,6 +36,7 @@ impl Server {
     /// Its line under way is answered, and is gone.
     pub fn end_line(&mut self)
         ensures server { self.new.server ≡ record self.old.server { under = None } }
+        ensures flying { self.new.flying ≡ self.old.flying }
         ensures room { KeepsRoom self.old self.new }
     {
         self.under = None;
@@ -44,6 +46,7 @@ impl Server {
     pub fn renew(&mut self, now: u64)
         requires { now ≤ LAST_TICK }
         ensures server { self.new.server ≡ record self.old.server { expiry = now + LEASE_TICKS } }
+        ensures flying { self.new.flying ≡ self.old.flying }
         ensures room { KeepsRoom self.old self.new }
     {
         self.expiry = now + LEASE_TICKS;
@@ -63,6 +66,7 @@ impl Server {
     /// A get or put of it failed: it counts where it is up, still or doomed.
     pub fn fail(&mut self)
         ensures server { self.new.server ≡ failed_by self.old.server }
+        ensures flying { self.new.flying ≡ self.old.flying }
         ensures room { KeepsRoom self.old self.new }
     {
         if self.is_in_mount() {
@@ -74,6 +78,7 @@ impl Server {
     pub fn doom(&mut self, fate: Fate)
         requires { is_in_mount self.old.server.phase ≡ true }
         ensures server { self.new.server ≡ record self.old.server { phase = core.Doomed (fate_of fate) } }
+        ensures flying { self.new.flying ≡ self.old.flying }
         ensures room { KeepsRoom self.old self.new }
     {
         self.phase = Phase::Doomed { fate };
@@ -82,6 +87,7 @@ impl Server {
     // Nothing is in its memory any more but its ring and its line, and it isn't armed.
     fn empty(&mut self)
         ensures server { self.new.server ≡ record first_server { phase = self.old.server.phase; expiry = self.old.server.expiry; owes = self.old.server.owes; failed = self.old.server.failed; ring = self.old.server.ring; under = self.old.server.under } }
+        ensures flying { self.new.flying ≡ [] }
         ensures id { self.new.id ≡ self.old.id }
     {
         self.arming = None;
@@ -93,6 +99,7 @@ impl Server {
     // An open answer of its line under way is fixed.
     fn fix_answer(&mut self)
         ensures server { self.new.server ≡ record self.old.server { under = option_map (under_at_death self.old.server.failed) self.old.server.under } }
+        ensures flying { self.new.flying ≡ self.old.flying }
         ensures id { self.new.id ≡ self.old.id }
     {
         if let Some(under) = &mut self.under {
@@ -103,6 +110,7 @@ impl Server {
     /// It dies of what was settled at its doom: what is in its memory but its ring is gone, and an open answer of its line under way is fixed.
     pub fn die(&mut self, fate: Fate)
         ensures server { self.new.server ≡ died_with (fate_of fate) self.old.server }
+        ensures flying { self.new.flying ≡ [] }
         ensures id { self.new.id ≡ self.old.id }
     {
         self.empty();
@@ -116,6 +124,7 @@ impl Server {
         requires clock { now ≤ LAST_TICK }
         requires mounted { is_in_mount self.old.server.phase ≡ true }
         ensures server { (setting : Setting) → lease_to setting now ≡ now + LEASE_TICKS → self.new.server ≡ up_again setting now self.old.server }
+        ensures flying { self.new.flying ≡ [] }
         ensures id { self.new.id ≡ self.old.id }
     {
         let arming = self.arming;
@@ -129,6 +138,7 @@ impl Server {
     /// Its mount ends well: nothing is left in memory but its ring.
     pub fn turn_off(&mut self)
         ensures server { self.new.server ≡ off_after self.old.server }
+        ensures flying { self.new.flying ≡ [] }
         ensures id { self.new.id ≡ self.old.id }
     {
         self.empty();
@@ -141,6 +151,7 @@ impl Server {
     pub fn mount(&mut self, ring: Ring, now: u64)
         requires { now ≤ LAST_TICK }
         ensures server { self.new.server ≡ record first_server { phase = core.Up; expiry = now + LEASE_TICKS; ring = ring.ring } }
+        ensures flying { self.new.flying ≡ [] }
         ensures id { self.new.id ≡ self.old.id }
     {
         self.empty();
@@ -155,6 +166,7 @@ impl Server {
     /// Its log is recovered: it is off, and its ring is gone.
     pub fn recovered(&mut self)
         ensures server { self.new.server ≡ recovered self.old.server }
+        ensures flying { self.new.flying ≡ self.old.flying }
         ensures id { self.new.id ≡ self.old.id }
     {
         self.phase = Phase::Off;

@@ -13,6 +13,7 @@ impl Server {
         ensures server { self.new.server ≡ self.old.server }
         ensures ok { OnOk result (count ≤ self.new.spare) }
         ensures sure { count ≤ self.old.spare → IsOk result }
+        ensures flying { self.new.flying ≡ self.old.flying }
         ensures room { KeepsRoom self.old self.new }
     {
         self.cache.reserve(count)
@@ -22,6 +23,7 @@ impl Server {
     fn reserve_zeros(&mut self) -> Result<(), NoMemory>
         ensures server { self.new.server ≡ self.old.server }
         ensures ok { OnOk result (SMALL_BLOCK_SECTORS ≤ self.new.zeros) }
+        ensures flying { self.new.flying ≡ self.old.flying }
         ensures room { KeepsRoom self.old self.new }
     {
         self.pending.reserve(SMALL_BLOCK_SECTORS as usize)?;
@@ -33,6 +35,7 @@ impl Server {
         ensures server { self.new.server ≡ self.old.server }
         ensures cached { OnOk result (SMALL_BLOCK_SECTORS ≤ self.new.spare) }
         ensures pending { OnOk result (SMALL_BLOCK_SECTORS ≤ self.new.zeros) }
+        ensures flying { self.new.flying ≡ self.old.flying }
         ensures room { KeepsRoom self.old self.new }
     {
         self.reserve_sectors(SMALL_BLOCK_SECTORS as usize)?;
@@ -44,6 +47,7 @@ impl Server {
         requires { is_some self.old.server.under ≡ true }
         ensures server { self.new.server ≡ self.old.server }
         ensures ok { OnOk result (0 < self.new.slots) }
+        ensures flying { self.new.flying ≡ self.old.flying }
         ensures room { KeepsRoom self.old self.new }
     {
         let alloc = self.alloc;

@@ -6,3 +6,4 @@ pub mod Sectorwise
 pub mod Stepping
 pub mod LineWants
 pub mod OneWrite
+pub mod Cached

@@ -26,7 +26,7 @@ module _ (first : ℕ × CachedSector) (all : Cache) where
   found_behind (e ∷ entries) above each =
       (ap (λ o. if is_eq o then Some first.1 else value_at all e.0) (nat_cmp_total.antisymm e.0 first.0 ∙ ap ordering_reverse above.0) ∙ each.0, found_behind entries above.1 each.1)
 
-each_found : (entries : Cache) → Ascend entries → AllByRecursion (λ e. value_at entries e.0 ≡ Some e.1) entries
+pub each_found : (entries : Cache) → Ascend entries → AllByRecursion (λ e. value_at entries e.0 ≡ Some e.1) entries
 unfolding IsStrictlySortedBy
 each_found [] sorted = tt
 each_found (e ∷ entries) sorted =

@@ -1,9 +1,12 @@
 -- Lists gone through until something is found.
 use Rattle.std.proofs.Common.{◌≡◌, ℕ, ◌+◌, ◌<◌, List, [], ◌∷◌, ◌++◌, length, get_or, drop, map, Option, Some, None, refl, sym, ap, ◌∙◌}
-use Rattle.std.proofs.lemmas.List.{drop_more}
+use Rattle.std.proofs.lemmas.List.{drop_all, drop_more}
+use Rattle.std.proofs.lemmas.Option.{get_or_from_slice_get, slice_get_within}
+use Rattle.std.specs.List.{slice_get}
 use Rattle.std.specs.Option.{option_or}
 use Rattle.ordered_map.specs.Chunks.{joined}
 use Rattle.server_writes.specs.Wants.{first_of}
+use Rattle.server_writes.proofs.Cached.{past}
 
 first-append : {X Y : Type 0} (f : X → Option Y) (xs ys : List X) → first_of f (xs ++ ys) ≡ option_or (first_of f xs) (first_of f ys)
 first-append f [] ys = refl
@@ -39,3 +42,14 @@ module _ {X Y : Type 0} (f : X → Option Y) (pieces : List (List X)) (i : ℕ) 
 
   pub piece_found : (y : Y) → first_of f piece ≡ Some y → Some y ≡ first
   piece_found y there = sym (ap (λ o. option_or o (first_of f (joined (drop (i + 1) pieces)))) there) ∙ sym at_piece ∙ before
+
+-- ---- place after place
+module _ {X Y : Type 0} (f : X → Option Y) (xs : List X) (i : ℕ) (first : Option Y) (before : first_of f (drop i xs) ≡ first) where
+  pub place_beyond : slice_get xs i ≡ None → None ≡ first
+  place_beyond none = sym (ap (first_of f) (drop_all i xs (past xs i none))) ∙ before
+
+  pub place_passed : (x : X) → slice_get xs i ≡ Some x → f x ≡ None → first_of f (drop (i + 1) xs) ≡ first
+  place_passed x is none = item_passed f xs i x (slice_get_within xs i x is) first before (ap f (get_or_from_slice_get xs i x x is) ∙ none)
+
+  pub place_found : (x : X) → slice_get xs i ≡ Some x → (y : Y) → f x ≡ Some y → Some y ≡ first
+  place_found x is y there = item_found f xs i x (slice_get_within xs i x is) first before y (ap f (get_or_from_slice_get xs i x x is) ∙ there)

@@ -1,5 +1,5 @@
 -- Whether a sector in place is wanted, and which of those that are may be written next.
-use Rattle.std.specs.Prelude.{◌≡◌, ℕ, Bool, true, false, not, ◌&&◌, ◌||◌, if◌then◌else◌, nat_le, Option, Some, None, List, [], ◌∷◌, unwrap_or}
+use Rattle.std.specs.Prelude.{◌≡◌, ℕ, ◌+◌, Bool, true, false, not, ◌&&◌, ◌||◌, if◌then◌else◌, nat_le, Option, Some, None, List, [], ◌∷◌, drop, unwrap_or}
 use Rattle.std.specs.List.{list_any}
 use Rattle.std.specs.Option.{option_map, option_or}
 use Rattle.frang_base.specs.Functions.{member}
@@ -36,6 +36,11 @@ passes_at passes cache sector = unwrap_or (option_map (λ cached. passes (sector
 abbrev pub IsOneOf : (ℕ × CachedSector → Bool) → Cache → Option Sector → Type 0
 IsOneOf passes cache None = list_any passes cache ≡ false
 IsOneOf passes cache (Some sector) = passes_at passes cache sector.0 ≡ true
+
+-- of the one cached at a place: it passes; where none is told, from behind it on one passes exactly where one does from it on
+abbrev pub IsAtPlace : (ℕ × CachedSector → Bool) → Cache → ℕ → Option Sector → Type 0
+IsAtPlace passes cache i None = list_any passes (drop (i + 1) cache) ≡ list_any passes (drop i cache)
+IsAtPlace passes cache i (Some sector) = passes_at passes cache sector.0 ≡ true
 
 -- ---- one that may be written
 

@@ -4,6 +4,7 @@
 #![tactic(auto)]
 
 mod next;
+mod pressed;
 mod ready;
 mod wanted;
 mod writes;

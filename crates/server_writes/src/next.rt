@@ -1,16 +1,15 @@
 // Which sector in place a server may have written next.
-ghost use Rattle.std.specs.Prelude.{◌≡◌, Option};
+ghost use Rattle.std.specs.Prelude.{◌≡◌, ◌<◌, Option};
+ghost use Rattle.frang_base.specs.declared.limits.TheConstants.{SERVERS};
 ghost use Rattle.clerk_cache.specs.Dropping.{numbers_of};
 ghost use Rattle.core_definitions.specs.Lines.{Stage};
-ghost use Rattle.lock_definitions.specs.Calls.{revokes};
-ghost use Rattle.ordered_map.specs.Chunks.{joined};
 ghost use Rattle.server_core.specs.States.{cached_in};
 ghost use Rattle.server_writes.specs.Wants.{IsOneOf, IsRoomFor, is_due, is_one_of_these, is_one_pending, is_one_pressed, line_wants, ready_and, stays_wanted};
 
-use crate::ready::{first_pending, first_pressed, first_ready};
-use frang_base::{LockId, Sector};
-use lock_table::{AskedFor, LockTable};
-use ordered_map::Chunk;
+use crate::pressed::{TooMany, any_pressed, first_pressed};
+use crate::ready::{first_pending, first_ready};
+use frang_base::Sector;
+use lock_table::LockTable;
 use server_core::Server;
 
 // The next sector that stays wanted.
@@ -49,17 +48,16 @@ fn next_of_line(server: &Server) -> Option<Sector>
 }
 
 // The next sector under a lock that is held sole and asked.
-fn next_pressed(
-    server: &Server,
-    table: &LockTable,
-    asked: &[Chunk<LockId, AskedFor>],
-) -> Option<Sector>
-    ensures { joined asked.now ≡ revokes table.now.locks server.now.id →
-        IsOneOf (ready_and (cached_in server.now) server.now.server.ring.reached (is_one_pressed table.now.locks server.now.id)) server.now.server.cache result }
+fn next_pressed(server: &Server, table: &LockTable) -> Option<Sector>
+    requires { server.now.id < SERVERS }
+    ensures { IsOneOf (ready_and (cached_in server.now) server.now.server.ring.reached (is_one_pressed table.now.locks server.now.id)) server.now.server.cache result }
 {
     // Each sector is cached once.
     let _cover = server.cache().cover(Sector(0));
-    first_pressed(server, table, asked)
+    match first_pressed(server, table) {
+        Ok(found) => found,
+        Err(TooMany) => any_pressed(server, table),
+    }
 }
 
 // The next one of these sectors.
@@ -71,17 +69,12 @@ fn next_of_these(server: &Server, sectors: &[Sector]) -> Option<Sector>
     first_ready(server, sectors)
 }
 
-/// A sector in place that a server wants written and may have written as far as it knows: it is dirty, its mark is reached and no write of it is in flight. `None` exactly where there
-/// is none. `asked`: what the server is asked for, in pieces that follow one another; `room`: the sectors that have to be clean before there is room for the record of its line, in
-/// any order, none where there is room. It takes no memory, and time logarithmic in the number of the cached sectors for each lock that is asked, each sector that is pending and each
-/// of `room`.
-pub fn next_place_write(
-    server: &Server,
-    table: &LockTable,
-    asked: &[Chunk<LockId, AskedFor>],
-    room: &[Sector],
-) -> Option<Sector>
-    ensures { (stage : Option Stage) → joined asked.now ≡ revokes table.now.locks server.now.id → IsRoomFor server.now.server stage (numbers_of room.now) →
+/// A sector in place that a server, 0 to 15, wants written and may have written as far as it knows: it is dirty, its mark is reached and no write of it is in flight. `None` exactly where there
+/// is none. `room`: the sectors that have to be clean before there is room for the record of its line, in any order, none where there is room. It takes no memory, and time
+/// logarithmic in the number of the cached sectors for each lock that is asked, each sector that is pending and each of `room`.
+pub fn next_place_write(server: &Server, table: &LockTable, room: &[Sector]) -> Option<Sector>
+    requires { server.now.id < SERVERS }
+    ensures { (stage : Option Stage) → IsRoomFor server.now.server stage (numbers_of room.now) →
         IsOneOf (is_due table.now.locks server.now.id server.now.server stage server.now.flying) server.now.server.cache result }
 {
     if let Some(sector) = next_staying(server) {
@@ -93,7 +86,7 @@ pub fn next_place_write(
     if let Some(sector) = next_of_line(server) {
         return Some(sector);
     }
-    if let Some(sector) = next_pressed(server, table, asked) {
+    if let Some(sector) = next_pressed(server, table) {
         return Some(sector);
     }
     next_of_these(server, room)

@@ -1,17 +1,15 @@
-// The first of some sectors, or under the first of some locks, that may be written.
+// The first of some sectors that may be written.
 ghost use Rattle.std.specs.Prelude.{◌≡◌};
 ghost use Rattle.ordered_map.specs.Chunks.{joined};
 ghost use Rattle.server_core.specs.States.{cached_in};
-ghost use Rattle.server_writes.specs.Wants.{first_of, is_ready, next_if_sole, passes_at, ready_sector};
+ghost use Rattle.server_writes.specs.Wants.{first_of, is_ready, passes_at, ready_sector};
 
-use crate::wanted::is_sole;
-use frang_base::{LockId, Sector};
-use lock_table::{AskedFor, LockTable};
+use frang_base::Sector;
 use ordered_map::Chunk;
 use server_core::Server;
 
-// Whether a sector is dirty with a mark that is reached, and no write of it is in flight.
-fn is_ready(server: &Server, sector: Sector) -> bool
+/// Whether a sector is dirty with a mark that is reached, and no write of it is in flight.
+pub(crate) fn is_ready(server: &Server, sector: Sector) -> bool
     ensures { result ≡ passes_at (is_ready server.now.flying server.now.server.ring.reached) server.now.server.cache sector.0 }
 {
     let cache = server.cache();
@@ -73,47 +71,4 @@ pub(crate) fn first_pending(server: &Server) -> Option<Sector>
     ensures { result ≡ first_of (ready_sector (cached_in server.now) server.now.server.ring.reached) server.now.server.pending }
 {
     first_ready_piece(server, server.pending())
-}
-
-// The next sector under a lock, where the lock is held sole.
-fn next_if_sole(server: &Server, table: &LockTable, one: &(LockId, AskedFor)) -> Option<Sector>
-    ensures { result ≡ next_if_sole table.now.locks server.now.id (cached_in server.now) server.now.server.ring.reached one.now }
-{
-    if is_sole(table, server.id(), one.0) {
-        server.cache().next_under(one.0, server.reached())
-    } else {
-        None
-    }
-}
-
-// The first that there is under these locks.
-fn first_pressed_of(
-    server: &Server,
-    table: &LockTable,
-    piece: &[(LockId, AskedFor)],
-) -> Option<Sector>
-    ensures { result ≡ first_of (next_if_sole table.now.locks server.now.id (cached_in server.now) server.now.server.ring.reached) piece.now }
-{
-    for one in piece {
-        if let Some(found) = next_if_sole(server, table, one) {
-            return Some(found);
-        }
-    }
-    None
-}
-
-/// The same of pieces that follow one another.
-pub(crate) fn first_pressed(
-    server: &Server,
-    table: &LockTable,
-    pieces: &[Chunk<LockId, AskedFor>],
-) -> Option<Sector>
-    ensures { result ≡ first_of (next_if_sole table.now.locks server.now.id (cached_in server.now) server.now.server.ring.reached) (joined pieces.now) }
-{
-    for piece in pieces {
-        if let Some(found) = first_pressed_of(server, table, piece.entries()) {
-            return Some(found);
-        }
-    }
-    None
 }

@@ -14,7 +14,7 @@ use Rattle.world_definitions.specs.Laws.{AServerChanges, AServerIsHeld, ALineIsA
 use Rattle.world_definitions.specs.Worlds.{core_of, host_of, servers_of}
 
 -- a list that is changed at a place inside is as a function changed there
-changed_at : {X : Type 0} (xs : List X) (a : ℕ) (v d : X) → a < length xs → (λ (n : ℕ). get_or (set xs a v) n d) ≡ put (λ n. get_or xs n d) a v
+pub changed_at : {X : Type 0} (xs : List X) (a : ℕ) (v d : X) → a < length xs → (λ (n : ℕ). get_or (set xs a v) n d) ≡ put (λ n. get_or xs n d) a v
 changed_at xs a v d inside = λ i n. at n i
   where
     at : (n : ℕ) → get_or (set xs a v) n d ≡ put (λ n. get_or xs n d) a v n
@@ -25,7 +25,7 @@ changed_at xs a v d inside = λ i n. at n i
         by false e = get_or-set_other xs a n v d (eqb-false n a e)
 
 -- as many of one thing are that thing at each place, the default too
-all_same : {X : Type 0} (n : ℕ) (x : X) (k : ℕ) → get_or (replicate n x) k x ≡ x
+pub all_same : {X : Type 0} (n : ℕ) (x : X) (k : ℕ) → get_or (replicate n x) k x ≡ x
 all_same zero x k = refl
 all_same (suc n) x zero = refl
 all_same (suc n) x (suc k) = all_same n x k
@@ -55,14 +55,14 @@ the_first_is_first script segments run marks = λ i. record {
         by false = all_same SERVERS first_server a
 
 -- no server has the host's number
-not_host : (a : ℕ) → a < SERVERS → nat_eq a host_party ≡ false
+pub not_host : (a : ℕ) → a < SERVERS → nat_eq a host_party ≡ false
 not_host a small = by (nat_eq a host_party) refl
   where
     by : (t : Bool) → nat_eq a host_party ≡ t → t ≡ false
     by true e = absurd (let at : a ≡ host_party = eqb-true a host_party e in omega arith)
     by false e = refl
 
-server_put : (servers : List Server) (host : Option Recovery) (a : ℕ) (server : Server) → a < length servers → a < SERVERS
+pub server_put : (servers : List Server) (host : Option Recovery) (a : ℕ) (server : Server) → a < length servers → a < SERVERS
     → servers_of (set servers a server) host ≡ put (servers_of servers host) a server
 server_put servers host a server inside small = λ i n. at n i
   where

@@ -8,5 +8,6 @@ abbrev pub invariant-loop-sector : goal.invariant-loop-sector
 invariant-loop-sector l = record {
   left : fold (zeroed l.mark l.segment) l.cache.entries (numbers_of (drop l.sector-index l.sectors)) ≡ fold (zeroed l.mark l.segment) l.fn.cache.entries (numbers_of l.sectors);
   staying : l.cache.staying ≡ l.fn.cache.staying;
+  flying : l.cache.flying ≡ l.fn.cache.flying;
   spare : l.fn.cache.spare ≤ l.cache.spare + l.sector-index;
 }

@@ -18,5 +18,6 @@ loop-change-preserved c =
       may = subst (λ cache. MayLay cache rest) (sym c.lay_change.ensures.entries)
           (others_may c.args.mark first rest c.loop-change.cache.entries (subst (MayLay c.loop-change.cache.entries) split c.loop-change.invariant.may));
       staying = c.lay_change.ensures.staying ∙ c.loop-change.invariant.staying;
+      flying = c.lay_change.ensures.flying ∙ c.loop-change.invariant.flying;
       spare = c.lay_change.ensures.spare ∙ c.loop-change.invariant.spare;
     }

@@ -9,5 +9,6 @@ invariant-loop-change l = record {
   left : with_changes l.mark l.cache.entries (drop l.change-index l.changes) ≡ with_changes l.mark l.fn.cache.entries l.changes;
   may : MayLay l.cache.entries (drop l.change-index l.changes);
   staying : l.cache.staying ≡ l.fn.cache.staying;
+  flying : l.cache.flying ≡ l.fn.cache.flying;
   spare : l.cache.spare ≡ l.fn.cache.spare;
 }

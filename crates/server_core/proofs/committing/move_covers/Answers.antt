@@ -15,5 +15,6 @@ loop-entry-preserved c =
       left = ap (λ cache. with_covers cache (moves_of (drop (i + 1) moves))) c.move_cover.ensures.entries
           ∙ sym (ap (λ rest. with_covers c.loop-entry.cache.entries (moves_of rest)) one) ∙ c.loop-entry.invariant.left;
       staying = c.move_cover.ensures.staying ∙ c.loop-entry.invariant.staying;
+      flying = c.move_cover.ensures.flying ∙ c.loop-entry.invariant.flying;
       spare = c.move_cover.ensures.spare ∙ c.loop-entry.invariant.spare;
     }

@@ -8,5 +8,6 @@ abbrev pub invariant-loop-set : goal.invariant-loop-set
 invariant-loop-set l = record {
   left : fold (with_bytes l.mark) l.cache.entries (map bytes_of (drop l.set-index l.bytes)) ≡ fold (with_bytes l.mark) l.fn.cache.entries (map bytes_of l.bytes);
   staying : l.cache.staying ≡ l.fn.cache.staying;
+  flying : l.cache.flying ≡ l.fn.cache.flying;
   spare : l.fn.cache.spare ≤ l.cache.spare + l.set-index;
 }

@@ -1,0 +1,12 @@
+pub mod Zeros
+pub mod Standing
+pub mod Commits
+pub mod Agains
+pub mod Clears
+pub mod Fetches
+pub mod Stages
+pub mod Finished
+pub mod Needs
+pub mod Cleared
+pub mod Operations
+pub mod Moments

@@ -1,0 +1,17 @@
+pub mod Changing
+pub mod Reporting
+pub mod LogBlocks
+pub mod SealStates
+pub mod FlightChanges
+pub mod JournalSteps
+pub mod Touching
+pub mod Leaving
+pub mod Quiet
+pub mod Landing
+pub mod Turning
+pub mod Standing
+pub mod ReadingAs
+pub mod Answering
+pub mod Rising
+pub mod Bounding
+pub mod Replaying

@@ -1,0 +1,3 @@
+pub mod Journals
+pub mod Logs
+pub mod Reports

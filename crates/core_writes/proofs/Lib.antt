@@ -1,0 +1,13 @@
+pub mod Lists
+pub mod MapLists
+pub mod LogPlaces
+pub mod Journaling
+pub mod Flies
+pub mod Owned
+pub mod Coming
+pub mod Going
+pub mod Issuing
+pub mod Landing
+pub mod Arriving
+pub mod Failing
+pub mod Acknowledging

@@ -1,0 +1,5 @@
+pub mod Gone
+pub mod Issues
+pub mod Arrivals
+pub mod Failures
+pub mod Acknowledged

@@ -1,0 +1,194 @@
+-- Puts behind puts: what they leave together, and where they stop.
+use Rattle.std.proofs.Common.{◌≡◌, ◌⊎◌, inl, inr, ℕ, ◌<◌, ◌==◌, Bool, true, false, if◌then◌else◌, List, [], ◌∷◌, ◌++◌, Result, Ok, Err, MatchResult, OnOk, refl, sym, ap, ◌∙◌, subst, arith, append_assoc}
+use Rattle.std.proofs.lemmas.Result.{MatchResult-weaker}
+use Rattle.frang_base.specs.declared.limits.TheConstants.{ROOT_INODE}
+use Rattle.frang_base.specs.declared.script.Line.{Line}
+use Rattle.frang_outside.specs.declared.act.Act.TheVariants as act
+use Rattle.frang_outside.specs.declared.act.Taken.{Taken}
+use Rattle.frang_outside.specs.declared.act.Taken.TheVariants.{Written, Late}
+use Rattle.frang_outside.specs.declared.outside.PutFault.{PutFault}
+use Rattle.frang_outside.specs.declared.outside.PutFault.TheVariants.{Failed, NoMemory}
+use Rattle.frang_outside.specs.Disk.{written}
+use Rattle.frang_outside.specs.Outside.{State as Outside, NoneRose, OldOrNew, OneRose, PutOutcome}
+use Rattle.sector_bytes.specs.Blocks.{Block, zero_block}
+use Rattle.sector_bytes.specs.Sectors.{SameSectors, Sectors}
+use Rattle.disk_definitions.specs.declared.region.Region.TheVariants as region
+use Rattle.disk_definitions.specs.Bitmaps.{bitmap_bytes}
+use Rattle.disk_definitions.specs.FreshDisk.{first_bitmap, fresh_param, root_inode}
+use Rattle.disk_definitions.specs.Inodes.{inode_bytes}
+use Rattle.disk_definitions.specs.Params.{param_bytes}
+use Rattle.disk_definitions.specs.Regions.{sector_of}
+use Rattle.core_definitions.specs.Opening.{Puts, disk_put, fresh_puts, fresh_start, opening_deeds, opening_put, param_put, put_over}
+use Rattle.core_definitions.specs.Runs.{acts_of}
+use Rattle.core_definitions.specs.Scripts.{host_party}
+use Rattle.hall_runs.specs.Outsets.{told_behind}
+use Rattle.hall_runs.proofs.Runs.{acts_append, told_append, told_none, told_one}
+use Rattle.opening.specs.Puts.{HasPut, IsBlank, Refused, StopsAt}
+
+-- ---- sectors
+
+written_same : (a b : Sectors) (sector : ℕ) (block : Block) → SameSectors a b → SameSectors (written a sector block) (written b sector block)
+written_same a b sector block same x = go (sector == x)
+  where
+    go : (t : Bool) → (if t then block else a x) ≡ (if t then block else b x)
+    go true = refl
+    go false = same x
+
+put_over_same : (a b : Sectors) (puts : Puts) → SameSectors a b → SameSectors (put_over a puts) (put_over b puts)
+put_over_same a b [] same = same
+put_over_same a b (one ∷ puts) same = put_over_same (written a one.0 one.1) (written b one.0 one.1) puts (written_same a b one.0 one.1 same)
+
+put_over_append : (old : Sectors) (xs ys : Puts) → put_over old (xs ++ ys) ≡ put_over (put_over old xs) ys
+put_over_append old [] ys = refl
+put_over_append old (x ∷ xs) ys = put_over_append (written old x.0 x.1) xs ys
+
+sectors_behind : (old middle new : Sectors) (xs ys : Puts) → SameSectors middle (put_over old xs) → SameSectors new (put_over middle ys) → SameSectors new (put_over old (xs ++ ys))
+sectors_behind old middle new xs ys first more x =
+    more x ∙ put_over_same middle (put_over old xs) ys first x ∙ ap (λ d. d x) (sym (put_over_append old xs ys))
+
+pub blank_put : (old new : Outside) (puts : Puts) → HasPut old new puts → IsBlank old → SameSectors new.sectors (disk_put puts)
+blank_put old new puts has blank x = has.sectors x ∙ put_over_same old.sectors (λ sector. zero_block) puts blank x
+
+-- ---- records
+
+deeds_append : (xs ys : Puts) → opening_deeds (xs ++ ys) ≡ opening_deeds xs ++ opening_deeds ys
+deeds_append [] ys = refl
+deeds_append (x ∷ xs) ys = ap (λ r. opening_deeds (x ∷ []) ++ r) (deeds_append xs ys)
+
+acts_behind : (old middle new : Outside) (xs ys : Puts) → middle.acts ≡ told_behind old.acts (acts_of (opening_deeds xs)) → new.acts ≡ told_behind middle.acts (acts_of (opening_deeds ys))
+    → new.acts ≡ told_behind old.acts (acts_of (opening_deeds (xs ++ ys)))
+acts_behind old middle new xs ys first more =
+    more ∙ ap (λ o. told_behind o (acts_of (opening_deeds ys))) first ∙ told_append old.acts (acts_of (opening_deeds xs)) (acts_of (opening_deeds ys))
+    ∙ ap (told_behind old.acts) (sym (acts_append (opening_deeds xs) (opening_deeds ys)) ∙ sym (ap acts_of (deeds_append xs ys)))
+
+-- ---- counts
+
+none_behind : (a b c : Outside) → NoneRose a b → NoneRose b c → NoneRose a c
+none_behind a b c f g = record { faults = λ p. g.faults p ∙ f.faults p; says = g.says ∙ f.says }
+
+one_behind : (a b c : Outside) (party : ℕ) → NoneRose a b → OneRose b c party → OneRose a c party
+one_behind a b c party f g = record {
+  own = omega (arith, g.own, f.faults party);
+  others = λ other ne. g.others other ne ∙ f.faults other;
+  says = g.says ∙ f.says;
+}
+
+-- ---- one put
+
+late_never : (t : ℕ) → t < 0 → ⊥
+late_never t h = omega arith
+
+pub put_one : (old new : Outside) (next : ℕ × Block) (taken : Taken) → PutOutcome old new (opening_put next) (Ok taken) → HasPut old new (next ∷ [])
+put_one old new next Written outcome = record {
+  sectors = outcome.1;
+  acts = outcome.2 ∙ told_one old.acts (act.Put (opening_put next) Written);
+  counts = outcome.3;
+}
+put_one old new next Late outcome = absurd (late_never (opening_put next).stamp outcome.0)
+
+pub refused_one : (old new : Outside) (next : ℕ × Block) (fault : PutFault) → PutOutcome old new (opening_put next) (Err fault) → StopsAt old new (next ∷ []) fault
+refused_one old new next Failed outcome = record {
+  made = [];
+  next = next;
+  left = [];
+  parts = refl;
+  acts = outcome.2 ∙ sym (told_none old.acts);
+  refused = (outcome.1, outcome.3);
+}
+refused_one old new next NoMemory outcome = record {
+  made = [];
+  next = next;
+  left = [];
+  parts = refl;
+  acts = outcome.1 ∙ sym (told_none old.acts);
+  refused = (outcome.0, outcome.2);
+}
+
+-- ---- puts behind puts
+
+pub put_behind : (old middle new : Outside) (xs ys : Puts) → HasPut old middle xs → HasPut middle new ys → HasPut old new (xs ++ ys)
+put_behind old middle new xs ys first more = record {
+  sectors = sectors_behind old.sectors middle.sectors new.sectors xs ys first.sectors more.sectors;
+  acts = acts_behind old middle new xs ys first.acts more.acts;
+  counts = none_behind old middle new first.counts more.counts;
+}
+
+either_same : (a b : Sectors) (new : Sectors) (next : ℕ × Block) → SameSectors a b → OldOrNew a new (opening_put next) → OldOrNew b new (opening_put next)
+either_same a b new next same either = record {
+  own = go either.own;
+  others = λ s ne. either.others s ne ∙ same s;
+}
+  where
+    go : (new next.0 ≡ a next.0) ⊎ (new next.0 ≡ next.1) → (new next.0 ≡ b next.0) ⊎ (new next.0 ≡ next.1)
+    go (inl e) = inl (e ∙ same next.0)
+    go (inr e) = inr e
+
+refused_behind : (old middle new : Outside) (xs made : Puts) (next : ℕ × Block) (fault : PutFault) → HasPut old middle xs → Refused middle new made next fault → Refused old new (xs ++ made) next fault
+refused_behind old middle new xs made next Failed has refused = (
+  either_same (put_over middle.sectors made) (put_over old.sectors (xs ++ made)) new.sectors next
+      (sectors_behind old.sectors middle.sectors (put_over middle.sectors made) xs made has.sectors (λ x. refl)) refused.0,
+  one_behind old middle new host_party has.counts refused.1,
+)
+refused_behind old middle new xs made next NoMemory has refused =
+    (sectors_behind old.sectors middle.sectors new.sectors xs made has.sectors refused.0, none_behind old middle new has.counts refused.1)
+
+pub stops_behind : (old middle new : Outside) (xs ys : Puts) (fault : PutFault) → HasPut old middle xs → StopsAt middle new ys fault → StopsAt old new (xs ++ ys) fault
+stops_behind old middle new xs ys fault has stops = record {
+  made = xs ++ stops.made;
+  next = stops.next;
+  left = stops.left;
+  parts = ap (λ r. xs ++ r) stops.parts ∙ sym (append_assoc xs stops.made (stops.next ∷ stops.left));
+  acts = acts_behind old middle new xs stops.made has.acts stops.acts;
+  refused = refused_behind old middle new xs stops.made stops.next fault has stops.refused;
+}
+
+-- more would have followed
+pub stops_before : (old new : Outside) (xs ys : Puts) (fault : PutFault) → StopsAt old new xs fault → StopsAt old new (xs ++ ys) fault
+stops_before old new xs ys fault stops = record {
+  made = stops.made;
+  next = stops.next;
+  left = stops.left ++ ys;
+  parts = ap (λ r. r ++ ys) stops.parts ∙ append_assoc stops.made (stops.next ∷ stops.left) ys;
+  acts = stops.acts;
+  refused = stops.refused;
+}
+
+-- ---- the three of a fresh disk
+
+abbrev root_put : ℕ × Block
+root_put = (sector_of (region.Inode ROOT_INODE), inode_bytes root_inode)
+
+abbrev segment_put : ℕ × Block
+segment_put = (sector_of (region.Segment 0), bitmap_bytes first_bitmap)
+
+module _ (segments : ℕ) (a b : Outside) where
+  pub first_stops : (root : Block) (fault : PutFault) → root ≡ inode_bytes root_inode → StopsAt a b ((sector_of (region.Inode ROOT_INODE), root) ∷ []) fault → StopsAt a b (fresh_puts segments) fault
+  first_stops root fault e stops =
+      stops_before a b (root_put ∷ []) (segment_put ∷ param_put (fresh_param segments) ∷ []) fault (subst (λ block. StopsAt a b ((sector_of (region.Inode ROOT_INODE), block) ∷ []) fault) e stops)
+
+  module _ (c : Outside) (root segment : Block) (e : root ≡ inode_bytes root_inode) (f : segment ≡ bitmap_bytes first_bitmap)
+      (first : HasPut a b ((sector_of (region.Inode ROOT_INODE), root) ∷ [])) where
+    root_made : HasPut a b (root_put ∷ [])
+    root_made = subst (λ block. HasPut a b ((sector_of (region.Inode ROOT_INODE), block) ∷ [])) e first
+
+    pub second_stops : (fault : PutFault) → StopsAt b c ((sector_of (region.Segment 0), segment) ∷ []) fault → StopsAt a c (fresh_puts segments) fault
+    second_stops fault stops =
+        stops_before a c (root_put ∷ segment_put ∷ []) (param_put (fresh_param segments) ∷ []) fault
+        (stops_behind a b c (root_put ∷ []) (segment_put ∷ []) fault root_made (subst (λ block. StopsAt b c ((sector_of (region.Segment 0), block) ∷ []) fault) f stops))
+
+    pub third_made : (d : Outside) (param : Block) (result : Result (Unit {0}) PutFault) → param ≡ param_bytes (fresh_param segments) → HasPut b c ((sector_of (region.Segment 0), segment) ∷ []) →
+        MatchResult result (λ done. HasPut c d ((sector_of region.Param, param) ∷ [])) (λ fault. StopsAt c d ((sector_of region.Param, param) ∷ []) fault) →
+        MatchResult result (λ done. HasPut a d (fresh_puts segments)) (λ fault. StopsAt a d (fresh_puts segments) fault)
+    third_made d param result g second third =
+        MatchResult-weaker result third
+        (λ done has. put_behind a c d (root_put ∷ segment_put ∷ []) (param_put (fresh_param segments) ∷ []) two_made (subst (λ block. HasPut c d ((sector_of region.Param, block) ∷ [])) g has))
+        (λ fault stops. stops_behind a c d (root_put ∷ segment_put ∷ []) (param_put (fresh_param segments) ∷ []) fault two_made
+        (subst (λ block. StopsAt c d ((sector_of region.Param, block) ∷ []) fault) g stops))
+      where
+        two_made : HasPut a c (root_put ∷ segment_put ∷ [])
+        two_made = put_behind a b c (root_put ∷ []) (segment_put ∷ []) root_made (subst (λ block. HasPut b c ((sector_of (region.Segment 0), block) ∷ [])) f second)
+
+-- over sectors of zeros they make the disk from which a run begins
+pub start_made : (segments : ℕ) (a b : Outside) (result : Result (Unit {0}) PutFault) → MatchResult result (λ done. HasPut a b (fresh_puts segments)) (λ fault. StopsAt a b (fresh_puts segments) fault) →
+    OnOk result (IsBlank a → (script : List Line) → SameSectors b.sectors (fresh_start script segments).disk)
+start_made segments a b result made = MatchResult-weaker result made (λ done has blank script. blank_put a b (fresh_puts segments) has blank) (λ fault stops. tt)

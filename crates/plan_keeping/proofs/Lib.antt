@@ -1,0 +1,4 @@
+pub mod Segments
+pub mod Planning
+pub mod Listed
+pub mod Bytes

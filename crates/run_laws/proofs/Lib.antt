@@ -1,0 +1,5 @@
+mod Steps
+mod Passing
+mod Placing
+mod Elsewhere
+mod Sighted

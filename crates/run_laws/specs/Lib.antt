@@ -1,0 +1,4 @@
+pub mod Writing
+pub mod Prefixes
+pub mod Regions
+pub mod Sights

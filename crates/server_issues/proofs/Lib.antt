@@ -1,0 +1,8 @@
+mod Doubled
+mod Rescues
+mod Overlay
+mod Issued
+mod Rescued
+mod Nexts
+mod Hosts
+mod Reclaiming

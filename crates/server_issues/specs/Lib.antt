@@ -1,0 +1,4 @@
+pub mod Doubled
+pub mod Issuing
+pub mod Laws
+pub mod Nexts

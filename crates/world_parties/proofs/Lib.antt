@@ -1,0 +1,3 @@
+pub mod Changing
+pub mod Reading
+pub mod Recovering

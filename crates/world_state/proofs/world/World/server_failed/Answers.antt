@@ -1,0 +1,11 @@
+-- The call counts for the server.
+use Rattle.std.proofs.Common.{ap, ◌∙◌}
+use Rattle.core_definitions.specs.LineEffects.{call_failed}
+use Rattle.world_state.specs.States.{State, core_at}
+use Rattle.world_state.proofs.Effects.{failed_is}
+use Rattle.world_state.proofs.world.World.server_failed.Goals as goal
+
+pub returns : goal.returns
+returns c =
+    let s : State = record { places = c.self.inside.places; run = c.self.inside.run; tick = c.self.inside.tick; parties = c.self.inside.parties; locks = c.self.inside.locks; flights = c.self.inside.flights; ticks = c.self.inside.ticks; over = c.self.inside.over } in
+    failed_is s c.fail.new.self c.args.a.0 c.fail.ensures c.requires ∙ ap (λ (s : State). call_failed (core_at s) c.args.a.0) c.self.view_is
