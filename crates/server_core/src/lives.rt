@@ -1,5 +1,5 @@
 // What becomes of a server: its line, its lease, what it wants, and its lives.
-ghost use Rattle.std.specs.Prelude.{◌≡◌, ◌≤◌, ◌+◌, [], not, Some, None, true};
+ghost use Rattle.std.specs.Prelude.{◌≡◌, ◌≤◌, ◌+◌, [], not, Some, None, true, false};
 ghost use Rattle.std.specs.Option.{option_map};
 ghost use Rattle.frang_base.specs.declared.limits.TheConstants.{LAST_TICK, LEASE_TICKS};
 ghost use Rattle.cache_definitions.specs.Caches.{any_cached, is_dirty_under};
@@ -9,10 +9,10 @@ ghost use Rattle.core_definitions.specs.Servers as core;
 ghost use Rattle.core_definitions.specs.Servers.{first_server, is_in_mount};
 ghost use Rattle.core_definitions.specs.Settings.{Setting, lease_to};
 ghost use Rattle.core_definitions.specs.WriteEffects.{died_with, under_at_death, up_again};
-ghost use Rattle.server_core.specs.Phases.{fate_of};
+ghost use Rattle.server_core.specs.Phases.{arming_of, fate_of};
 ghost use Rattle.server_core.specs.States.{KeepsRoom};
 
-use crate::phase::{Fate, Phase};
+use crate::phase::{Arming, Fate, Phase};
 use crate::server::Server;
 use crate::under::Under;
 use clerk_cache::Cache;
@@ -72,6 +72,34 @@ impl Server {
         if self.is_in_mount() {
             self.failed = true;
         }
+    }
+
+    /// It is armed to die where the k-th next write would be issued.
+    pub fn arm(&mut self, arming: Arming)
+        ensures server { self.new.server ≡ record self.old.server { arming = Some (arming_of arming) } }
+        ensures flying { self.new.flying ≡ self.old.flying }
+        ensures room { KeepsRoom self.old self.new }
+    {
+        self.arming = Some(arming);
+    }
+
+    /// It is stalled. It is mounted before.
+    pub fn stall(&mut self)
+        requires { is_in_mount self.old.server.phase ≡ true }
+        ensures server { self.new.server ≡ record self.old.server { phase = core.Still } }
+        ensures flying { self.new.flying ≡ self.old.flying }
+        ensures room { KeepsRoom self.old self.new }
+    {
+        self.phase = Phase::Still;
+    }
+
+    /// It owes nothing any more.
+    pub fn owe_nothing(&mut self)
+        ensures server { self.new.server ≡ record self.old.server { owes = false } }
+        ensures flying { self.new.flying ≡ self.old.flying }
+        ensures room { KeepsRoom self.old self.new }
+    {
+        self.owes = false;
     }
 
     /// What goes with it, and whether it will owe, is settled: its next event is its death.
