@@ -59,6 +59,12 @@ fits_as segments party new same recovery fits =
     let P : ℕ → Type 0 = λ n. IsRecovery segments n new.recovery in
     subst P (sym same) (subst (IsRecovery segments party.server.id) (sym recovery) fits)
 
+-- so they do with any party of this number whose recovery fits
+pub kept_placed : (s old : State) (a i : ℕ) (new : Party) → s ≡ old → AreKept s → a < SERVERS → i ≡ a → new.server.id ≡ a → IsRecovery old.segments a new.recovery
+    → AreKept (record s { parties = set s.parties i new })
+kept_placed s old a i new seen kept small at is fits = kept_put s a i new (get_or s.parties i new) new kept small at refl (is ∙ sym (found_number s a i new (get_or s.parties i new) kept small at refl))
+    (let P : ℕ → Type 0 = λ n. IsRecovery s.segments n new.recovery in subst P (sym is) (subst (λ (o : State). IsRecovery o.segments a new.recovery) (sym seen) fits))
+
 -- its recovery is the same
 pub kept_same : (s : State) (a i : ℕ) (d party new : Party) → AreKept s → a < SERVERS → i ≡ a → party ≡ get_or s.parties i d → new.server.id ≡ party.server.id
     → new.recovery ≡ party.recovery → AreKept (record s { parties = set s.parties i new })
@@ -235,6 +241,10 @@ put_same servers a = λ i n. at n i
         by : (t : Bool) → nat_eq n a ≡ t → (if t then servers a else servers n) ≡ servers n
         by true e = ap servers (sym (eqb-true n a e))
         by false e = refl
+
+-- a party whose server is as it was
+pub becomes_same : (old new : State) (a : ℕ) → Becomes old new a (servers_at old a) → IsSame old new
+becomes_same old new a becomes = record { servers = becomes.servers ∙ put_same (servers_at old) a; stays = becomes.stays }
 
 -- a recovery that was taken out of its place is another when it is back there
 pub becomes_anew : (old between new : State) (a : ℕ) (recovery : Option Recovery) → Becomes old between a (record (servers_at old a) { recovery = None })

@@ -1,3 +1,5 @@
 pub mod Changing
 pub mod Reading
 pub mod Recovering
+pub mod Keeping
+pub mod Flagging

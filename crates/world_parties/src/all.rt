@@ -1,10 +1,10 @@
 // The sixteen servers in a list.
-ghost use Rattle.std.specs.Prelude.{◌≡◌, IfOk, map, ◌&&◌, is_some, None};
+ghost use Rattle.std.specs.Prelude.{◌≡◌, IfOk, map, ◌&&◌, is_some, None, []};
 ghost use Rattle.std.specs.List.{All, list_all, list_any};
 ghost use Rattle.core_definitions.specs.Cores.{server_numbers};
 ghost use Rattle.core_definitions.specs.EndGuards.{is_unsettled};
 ghost use Rattle.core_definitions.specs.Servers.{first_server, is_off, is_up, wanting_all_up};
-ghost use Rattle.world_parties.specs.States.{server_of};
+ghost use Rattle.world_parties.specs.States.{oldest_of, server_of};
 
 use crate::party::Party;
 use frang_base::limits::SERVERS;
@@ -12,15 +12,23 @@ use frang_base::{NoMemory, ServerId};
 use server_core::Server;
 use std::alloc::Global;
 
-// One of them, with nothing in memory.
-fn first_party(alloc: Global, a: ServerId) -> Party
+/// One of them, with nothing in memory.
+pub(crate) fn first_party(alloc: Global, a: ServerId) -> Party
     ensures server { server_of result ≡ first_server }
     ensures id { result.server.id ≡ a.0 }
     ensures recovery { result.recovery ≡ None }
+    ensures flags { result.server.flying ≡ [] }
+    ensures plan { result.plan ≡ None }
+    ensures oldest { oldest_of result ≡ None }
 {
+    let mut server = Server::new(alloc, a);
+    // It is off already: what is known of it behind this is that none of its sectors is flagged.
+    server.turn_off();
     Party {
-        server: Server::new(alloc, a),
+        server,
         recovery: None,
+        plan: None,
+        oldest: None,
     }
 }
 
@@ -29,6 +37,9 @@ pub(crate) fn first_parties(alloc: Global) -> Result<Vec<Party>, NoMemory>
     ensures servers { IfOk result (λ parties. map server_of parties.items ≡ map (λ a. first_server) server_numbers) }
     ensures placed { IfOk result (λ parties. map (λ party. party.server.id) parties.items ≡ server_numbers) }
     ensures recoveries { IfOk result (λ parties. All (λ party. party.recovery ≡ None) parties.items) }
+    ensures flags { IfOk result (λ parties. All (λ party. party.server.flying ≡ []) parties.items) }
+    ensures plans { IfOk result (λ parties. All (λ party. party.plan ≡ None) parties.items) }
+    ensures oldest { IfOk result (λ parties. All (λ party. oldest_of party ≡ None) parties.items) }
 {
     let mut parties = Vec::new(alloc);
     for a in 0..SERVERS as u8 {
@@ -116,6 +127,9 @@ pub(crate) fn want_all(parties: &mut [Party])
     ensures servers { map server_of parties.new ≡ map wanting_all_up (map server_of parties.old) }
     ensures placed { map (λ party. party.server.id) parties.new ≡ map (λ party. party.server.id) parties.old }
     ensures recoveries { map (λ party. party.recovery) parties.new ≡ map (λ party. party.recovery) parties.old }
+    ensures flags { map (λ party. party.server.flying) parties.new ≡ map (λ party. party.server.flying) parties.old }
+    ensures plans { map (λ party. party.plan) parties.new ≡ map (λ party. party.plan) parties.old }
+    ensures oldest { map oldest_of parties.new ≡ map oldest_of parties.old }
 {
     for i in 0..parties.len() {
         parties[i].want_all_if_up();

@@ -9,7 +9,7 @@ ghost use Rattle.core_definitions.specs.Servers.{is_in_mount, wanting_all, wanti
 ghost use Rattle.core_definitions.specs.Settings.{Setting, lease_to};
 ghost use Rattle.core_definitions.specs.WriteEffects.{died_with, up_again};
 ghost use Rattle.server_core.specs.Phases.{fate_of};
-ghost use Rattle.world_parties.specs.States.{Becomes, EachBecomes, servers_at};
+ghost use Rattle.world_parties.specs.States.{Becomes, EachBecomes, IsBare, Keeps, servers_at};
 
 use crate::all::want_all;
 use crate::parties::Parties;
@@ -22,7 +22,8 @@ impl Parties {
     /// A line is under way of a server from now on.
     pub fn begin(&mut self, a: ServerId, under: Under)
         requires { a.0 < SERVERS }
-        ensures { Becomes self.old self.new a.0 (record (servers_at self.old a.0) { under = Some under.under }) }
+        ensures becomes { Becomes self.old self.new a.0 (record (servers_at self.old a.0) { under = Some under.under }) }
+        ensures keeps { Keeps self.old self.new }
     {
         self.list[usize::from(a.0)].begin(under);
     }
@@ -31,7 +32,8 @@ impl Parties {
     pub fn renew(&mut self, a: ServerId, now: u64)
         requires server { a.0 < SERVERS }
         requires clock { now ≤ LAST_TICK }
-        ensures { Becomes self.old self.new a.0 (record (servers_at self.old a.0) { expiry = now + LEASE_TICKS }) }
+        ensures becomes { Becomes self.old self.new a.0 (record (servers_at self.old a.0) { expiry = now + LEASE_TICKS }) }
+        ensures keeps { Keeps self.old self.new }
     {
         self.list[usize::from(a.0)].renew(now);
     }
@@ -40,7 +42,8 @@ impl Parties {
     pub fn drop_under(&mut self, a: ServerId, lock: LockId)
         requires server { a.0 < SERVERS }
         requires clean { any_cached (is_dirty_under lock) (servers_at self.old a.0).cache ≡ false }
-        ensures { Becomes self.old self.new a.0 (record (servers_at self.old a.0) { cache = dropped (servers_at self.old a.0).cache lock }) }
+        ensures becomes { Becomes self.old self.new a.0 (record (servers_at self.old a.0) { cache = dropped (servers_at self.old a.0).cache lock }) }
+        ensures keeps { Keeps self.old self.new }
     {
         self.list[usize::from(a.0)].drop_under(lock);
     }
@@ -48,14 +51,16 @@ impl Parties {
     /// A server wants everything written.
     pub fn want_all(&mut self, a: ServerId)
         requires { a.0 < SERVERS }
-        ensures { Becomes self.old self.new a.0 (wanting_all (servers_at self.old a.0)) }
+        ensures becomes { Becomes self.old self.new a.0 (wanting_all (servers_at self.old a.0)) }
+        ensures keeps { Keeps self.old self.new }
     {
         self.list[usize::from(a.0)].want_all();
     }
 
     /// All servers that are up want everything written.
     pub fn flush(&mut self)
-        ensures { EachBecomes self.old self.new wanting_all_up }
+        ensures becomes { EachBecomes self.old self.new wanting_all_up }
+        ensures keeps { Keeps self.old self.new }
     {
         want_all(&mut self.list);
     }
@@ -67,7 +72,8 @@ impl Parties {
     /// A get or put of a server failed: it counts where the server is up, still or doomed.
     pub fn fail(&mut self, a: ServerId)
         requires { a.0 < SERVERS }
-        ensures { Becomes self.old self.new a.0 (failed_by (servers_at self.old a.0)) }
+        ensures becomes { Becomes self.old self.new a.0 (failed_by (servers_at self.old a.0)) }
+        ensures keeps { Keeps self.old self.new }
     {
         self.list[usize::from(a.0)].fail();
     }
@@ -76,7 +82,8 @@ impl Parties {
     pub fn doom(&mut self, a: ServerId, fate: Fate)
         requires server { a.0 < SERVERS }
         requires mounted { is_in_mount (servers_at self.old a.0).phase ≡ true }
-        ensures { Becomes self.old self.new a.0 (record (servers_at self.old a.0) { phase = core.Doomed (fate_of fate) }) }
+        ensures becomes { Becomes self.old self.new a.0 (record (servers_at self.old a.0) { phase = core.Doomed (fate_of fate) }) }
+        ensures keeps { Keeps self.old self.new }
     {
         self.list[usize::from(a.0)].doom(fate);
     }
@@ -84,7 +91,9 @@ impl Parties {
     /// A server dies of what was settled at its doom.
     pub fn die(&mut self, a: ServerId, fate: Fate)
         requires { a.0 < SERVERS }
-        ensures { Becomes self.old self.new a.0 (died_with (fate_of fate) (servers_at self.old a.0)) }
+        ensures becomes { Becomes self.old self.new a.0 (died_with (fate_of fate) (servers_at self.old a.0)) }
+        ensures keeps { Keeps self.old self.new }
+        ensures bare { IsBare self.new a.0 }
     {
         self.list[usize::from(a.0)].die(fate);
     }
@@ -94,7 +103,8 @@ impl Parties {
         requires server { a.0 < SERVERS }
         requires clock { now ≤ LAST_TICK }
         requires mounted { is_in_mount (servers_at self.old a.0).phase ≡ true }
-        ensures { (setting : Setting) → lease_to setting now ≡ now + LEASE_TICKS → Becomes self.old self.new a.0 (up_again setting now (servers_at self.old a.0)) }
+        ensures becomes { (setting : Setting) → lease_to setting now ≡ now + LEASE_TICKS → Becomes self.old self.new a.0 (up_again setting now (servers_at self.old a.0)) }
+        ensures keeps { Keeps self.old self.new }
     {
         self.list[usize::from(a.0)].resume(now);
     }
@@ -102,7 +112,8 @@ impl Parties {
     /// The mount of a server ends well: nothing is left in memory but its ring.
     pub fn turn_off(&mut self, a: ServerId)
         requires { a.0 < SERVERS }
-        ensures { Becomes self.old self.new a.0 (off_after (servers_at self.old a.0)) }
+        ensures becomes { Becomes self.old self.new a.0 (off_after (servers_at self.old a.0)) }
+        ensures keeps { Keeps self.old self.new }
     {
         self.list[usize::from(a.0)].turn_off();
     }
@@ -110,7 +121,8 @@ impl Parties {
     /// The log of a server is recovered: it is off, and its ring is gone.
     pub fn recovered(&mut self, a: ServerId)
         requires { a.0 < SERVERS }
-        ensures { Becomes self.old self.new a.0 (recovered (servers_at self.old a.0)) }
+        ensures becomes { Becomes self.old self.new a.0 (recovered (servers_at self.old a.0)) }
+        ensures keeps { Keeps self.old self.new }
     {
         self.list[usize::from(a.0)].recovered();
     }

@@ -1,7 +1,8 @@
 // A party that is a server.
-ghost use Rattle.std.specs.Prelude.{◌≡◌, ◌≤◌, ◌+◌, None, Some, false, true};
+ghost use Rattle.std.specs.Prelude.{◌≡◌, ◌≤◌, ◌+◌, [], None, Some, false, true, if◌then◌else◌};
 ghost use Rattle.frang_base.specs.declared.limits.TheConstants.{LAST_TICK, LEASE_TICKS};
 ghost use Rattle.cache_definitions.specs.Caches.{any_cached, dropped, is_dirty_under};
+ghost use Rattle.cache_definitions.specs.Flags.{but, with_cached};
 ghost use Rattle.core_definitions.specs.EndEffects.{recovered};
 ghost use Rattle.core_definitions.specs.LineEffects.{failed_by, off_after};
 ghost use Rattle.core_definitions.specs.Servers as core;
@@ -11,9 +12,10 @@ ghost use Rattle.core_definitions.specs.WriteEffects.{counted, died_with, ring_a
 ghost use Rattle.flight_laws.specs.Flights.{purpose_of};
 ghost use Rattle.server_core.specs.Effects.{IsNext};
 ghost use Rattle.server_core.specs.Phases.{fate_of};
-ghost use Rattle.world_parties.specs.States.{server_of};
+ghost use Rattle.world_parties.specs.States.{PartyKeeps, oldest_of, server_of};
 
-use frang_base::LockId;
+use frang_base::{LockId, Sector};
+use kept_plans::KeptPlan;
 use petal_disk::Purpose;
 use recovery_demon::Demon;
 use server_core::{Fate, Server, Under};
@@ -25,11 +27,25 @@ pub(crate) fn set(place: &mut Option<Demon>, recovery: Option<Demon>)
     *place = recovery;
 }
 
-/// A server, and the recovery of a log that it carries out, if any.
+/// A server, with the recovery of a log that it carries out, if any, and what is kept of its line.
 #[derive(Drop)]
 pub struct Party {
     pub server: Server,
     pub recovery: Option<Demon>,
+    /// What its line comes to, where that is known.
+    pub plan: Option<KeptPlan>,
+    /// The sectors that the oldest records of its log name, where these are known.
+    pub oldest: Option<Vec<Sector>>,
+}
+
+impl Party {
+    /// Nothing is known of its line or its log any more.
+    pub fn forget(&mut self)
+        ensures { self.new ≡ record self.old { plan = None; oldest = None } }
+    {
+        self.plan = None;
+        self.oldest = None;
+    }
 }
 
 // ---- its line, its lease, what it wants
@@ -40,8 +56,10 @@ impl Party {
         ensures server { server_of self.new ≡ record (server_of self.old) { under = Some under.under } }
         ensures id { self.new.server.id ≡ self.old.server.id }
         ensures recovery { self.new.recovery ≡ self.old.recovery }
+        ensures keeps { PartyKeeps self.old self.new }
     {
         self.server.begin(under);
+        self.forget();
     }
 
     // Its lease lasts from now on.
@@ -50,6 +68,7 @@ impl Party {
         ensures server { server_of self.new ≡ record (server_of self.old) { expiry = now + LEASE_TICKS } }
         ensures id { self.new.server.id ≡ self.old.server.id }
         ensures recovery { self.new.recovery ≡ self.old.recovery }
+        ensures keeps { PartyKeeps self.old self.new }
     {
         self.server.renew(now);
     }
@@ -60,8 +79,10 @@ impl Party {
         ensures server { server_of self.new ≡ record (server_of self.old) { cache = dropped (server_of self.old).cache lock } }
         ensures id { self.new.server.id ≡ self.old.server.id }
         ensures recovery { self.new.recovery ≡ self.old.recovery }
+        ensures keeps { PartyKeeps self.old self.new }
     {
         self.server.drop_under(lock);
+        self.forget();
     }
 
     // It wants everything written.
@@ -69,6 +90,10 @@ impl Party {
         ensures server { server_of self.new ≡ wanting_all (server_of self.old) }
         ensures id { self.new.server.id ≡ self.old.server.id }
         ensures recovery { self.new.recovery ≡ self.old.recovery }
+        ensures flags { self.new.server.flying ≡ self.old.server.flying }
+        ensures plan { self.new.plan ≡ self.old.plan }
+        ensures oldest { oldest_of self.new ≡ oldest_of self.old }
+        ensures keeps { PartyKeeps self.old self.new }
     {
         self.server.want_all();
     }
@@ -78,6 +103,9 @@ impl Party {
         ensures server { server_of self.new ≡ wanting_all_up (server_of self.old) }
         ensures id { self.new.server.id ≡ self.old.server.id }
         ensures recovery { self.new.recovery ≡ self.old.recovery }
+        ensures flags { self.new.server.flying ≡ self.old.server.flying }
+        ensures plan { self.new.plan ≡ self.old.plan }
+        ensures oldest { oldest_of self.new ≡ oldest_of self.old }
     {
         if self.server.is_up() {
             self.want_all();
@@ -94,8 +122,24 @@ impl Party {
         ensures server { server_of self.new ≡ record (server_of self.old) { ring = ring_after (purpose_of purpose) (server_of self.old).ring; arming = counted (server_of self.old).arming } }
         ensures id { self.new.server.id ≡ self.old.server.id }
         ensures recovery { self.new.recovery ≡ self.old.recovery }
+        ensures keeps { PartyKeeps self.old self.new }
     {
         self.server.issued(purpose);
+        if let Purpose::OfLog(_) = purpose {
+            self.oldest = None;
+        }
+    }
+
+    // A write of a sector is in flight, or no longer: where the sector is cached, that is kept of it.
+    pub(crate) fn set_flies(&mut self, sector: Sector, flies: bool)
+        ensures server { server_of self.new ≡ server_of self.old }
+        ensures flags { self.new.server.flying ≡ (if flies then with_cached self.old.server.server.cache sector.0 self.old.server.flying else but sector.0 self.old.server.flying) }
+        ensures id { self.new.server.id ≡ self.old.server.id }
+        ensures recovery { self.new.recovery ≡ self.old.recovery }
+        ensures plan { self.new.plan ≡ self.old.plan }
+        ensures oldest { oldest_of self.new ≡ oldest_of self.old }
+    {
+        self.server.set_flies(sector, flies);
     }
 
     // A get or put of it failed.
@@ -103,6 +147,7 @@ impl Party {
         ensures server { server_of self.new ≡ failed_by (server_of self.old) }
         ensures id { self.new.server.id ≡ self.old.server.id }
         ensures recovery { self.new.recovery ≡ self.old.recovery }
+        ensures keeps { PartyKeeps self.old self.new }
     {
         self.server.fail();
     }
@@ -117,6 +162,7 @@ impl Party {
         ensures server { server_of self.new ≡ record (server_of self.old) { phase = core.Doomed (fate_of fate) } }
         ensures id { self.new.server.id ≡ self.old.server.id }
         ensures recovery { self.new.recovery ≡ self.old.recovery }
+        ensures keeps { PartyKeeps self.old self.new }
     {
         self.server.doom(fate);
     }
@@ -126,9 +172,14 @@ impl Party {
         ensures server { server_of self.new ≡ died_with (fate_of fate) (server_of self.old) }
         ensures id { self.new.server.id ≡ self.old.server.id }
         ensures recovery { self.new.recovery ≡ None }
+        ensures flags { self.new.server.flying ≡ [] }
+        ensures plan { self.new.plan ≡ None }
+        ensures oldest { oldest_of self.new ≡ None }
+        ensures keeps { PartyKeeps self.old self.new }
     {
         self.recovery = None;
         self.server.die(fate);
+        self.forget();
     }
 
     // Its stall is over.
@@ -138,9 +189,11 @@ impl Party {
         ensures server { (setting : Setting) → lease_to setting now ≡ now + LEASE_TICKS → server_of self.new ≡ up_again setting now (server_of self.old) }
         ensures id { self.new.server.id ≡ self.old.server.id }
         ensures recovery { self.new.recovery ≡ None }
+        ensures keeps { PartyKeeps self.old self.new }
     {
         self.recovery = None;
         self.server.resume(now);
+        self.forget();
     }
 
     // Its mount ends well.
@@ -148,9 +201,11 @@ impl Party {
         ensures server { server_of self.new ≡ off_after (server_of self.old) }
         ensures id { self.new.server.id ≡ self.old.server.id }
         ensures recovery { self.new.recovery ≡ None }
+        ensures keeps { PartyKeeps self.old self.new }
     {
         self.recovery = None;
         self.server.turn_off();
+        self.forget();
     }
 
     // Its log is recovered.
@@ -158,8 +213,10 @@ impl Party {
         ensures server { server_of self.new ≡ recovered (server_of self.old) }
         ensures id { self.new.server.id ≡ self.old.server.id }
         ensures recovery { self.new.recovery ≡ self.old.recovery }
+        ensures keeps { PartyKeeps self.old self.new }
     {
         self.server.recovered();
+        self.forget();
     }
 
     // It carries out this recovery from now on, or none.

@@ -9,6 +9,7 @@ use Rattle.lock_definitions.specs.declared.claim.AskedFor.TheVariants.{Release}
 use Rattle.lock_table.specs.Table.{Table}
 use Rattle.petal_disk.specs.Flights.{Flights}
 use Rattle.flight_laws.specs.Flights.{flights_of}
+use Rattle.sector_bytes.specs.SectorMaps.{without}
 use Rattle.cache_definitions.specs.Caches.{dropped}
 use Rattle.core_definitions.specs.Cores.{Core, clean_at, with_server}
 use Rattle.core_definitions.specs.EndEffects.{closed}
@@ -17,7 +18,7 @@ use Rattle.core_definitions.specs.Lines.{Under}
 use Rattle.core_definitions.specs.Scripts.{host_party}
 use Rattle.core_definitions.specs.Servers as core
 use Rattle.core_definitions.specs.Servers.{Fate, Server, wanting_all, wanting_all_up}
-use Rattle.core_definitions.specs.WriteEffects.{died, died_in, died_with, doomed, fate_of, flights_at_death, flushed_at, given, given_for, renewed, resumed, ticked, ticks_after, up_again}
+use Rattle.core_definitions.specs.WriteEffects.{died, died_in, died_with, doomed, fate_of, flights_at_death, flushed_at, given, given_for, landed, renewed, resumed, ticked, ticks_after, up_again}
 use Rattle.world_definitions.proofs.Changing.{not_host}
 use Rattle.world_parties.specs.States.{Becomes, EachBecomes, IsSame, State as Parties, held_at, servers_at}
 use Rattle.world_state.specs.Begins.{Begins}
@@ -106,6 +107,13 @@ died_is s parties flights a fate becomes gone next doomed =
     ap (λ (c : Core). record c { flights = flights_of flights.flying; tickets = flights.next }) (party_is s parties a (died_with fate (servers_at s.parties a)) becomes)
     ∙ (λ i. record (with_server (core_at s) a (died_with fate (servers_at s.parties a))) { flights = gone i; tickets = next i })
     ∙ ap (died_in (core_at s) a) (sym doomed)
+
+-- a write is gone, and no server has changed
+pub landed_is : (s : State) (parties : Parties) (flights : Flights) (ticket : ℕ) → IsSame s.parties parties → flights_of flights.flying ≡ without (flights_of s.flights.flying) ticket
+    → flights.next ≡ s.flights.next → core_at (record s { parties = parties; flights = flights }) ≡ landed (core_at s) ticket
+landed_is s parties flights ticket same gone next =
+    ap (λ (c : Core). record c { flights = flights_of flights.flying; tickets = flights.next }) (same_is s parties same)
+    ∙ (λ i. record (core_at s) { flights = gone i; tickets = next i })
 
 -- ---- the clock
 

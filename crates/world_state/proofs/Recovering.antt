@@ -1,6 +1,7 @@
 -- Recoveries of the world and those of its core: who carries one out, what is wanted of it, and what its events make.
 use Rattle.std.proofs.Common.{◌≡◌, ◌<◌, ℕ, zero, suc, Bool, true, false, not, ◌&&◌, ◌||◌, if◌then◌else◌, is_some, Option, Some, None, IfSome, IsSomeAnd, [], ◌∷◌, arith, refl, sym, ap, ◌∙◌, nat_eq, nat_lt, ◌==◌}
 use Rattle.std.specs.List.{list_any}
+use Rattle.std.specs.List.Sorted.{IsStrictlySortedBy}
 use Rattle.std.specs.Option.{option_map}
 use Rattle.std.proofs.lemmas.Bool.{and_parts, eqb-false, eqb-true, false≢true}
 use Rattle.std.proofs.lemmas.Bool.Decides.{nat_tests}
@@ -9,7 +10,7 @@ use Rattle.frang_base.specs.Functions.{member, put}
 use Rattle.frang_base.specs.declared.limits.TheConstants.{SERVERS}
 use Rattle.tree_definitions.specs.Numbers.{below}
 use Rattle.sector_bytes.specs.Blocks.{Block}
-use Rattle.sector_bytes.specs.SectorMaps.{with_value}
+use Rattle.sector_bytes.specs.SectorMaps.{Ascend, with_value}
 use Rattle.lock_definitions.specs.Calls.{cleared, taken}
 use Rattle.lock_definitions.specs.Locks.{log_hold}
 use Rattle.lock_table.specs.Table.{Table}
@@ -227,3 +228,8 @@ finished_is s between all table by dead out off given_back is =
   where
     idle : Server
     idle = record (servers_at s.parties by) { recovery = None }
+
+-- of no write the sectors ascend
+pub none_ascend : Ascend {V = Block} []
+unfolding IsStrictlySortedBy
+none_ascend = tt

@@ -146,7 +146,8 @@ impl World {
 
     /// HostLine: the host's next line is answered; one that halts ends everything, and what is in flight is lost.
     pub fn host_line(&mut self, number: u32)
-        requires { IsTrue (may_host (core_at self.old) number) }
+        requires may { IsTrue (may_host (core_at self.old) number) }
+        requires going { self.old.over ≡ false }
         ensures { core_at self.new ≡ host_answered (core_at self.old) }
     {
         let halts = self.halts(number);

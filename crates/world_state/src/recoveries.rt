@@ -1,5 +1,5 @@
 // Recoveries: Recover, Load, Look, Finish.
-ghost use Rattle.std.specs.Prelude.{◌≡◌, ◌&&◌, IfOk, IfSome, IsTrue, OnOk};
+ghost use Rattle.std.specs.Prelude.{◌≡◌, ◌&&◌, [], IfOk, IsTrue, OnOk};
 ghost use Rattle.std.specs.List.{list_any};
 ghost use Rattle.core_definitions.specs.Cores.{parties};
 ghost use Rattle.core_definitions.specs.EndEffects.{finished, loaded, looked, recovering};
@@ -93,6 +93,7 @@ impl World {
     pub fn ready_recover(&self, dead: ServerId) -> Result<Demon, NoMemory>
         ensures recovery { IfOk result (λ demon. demon.recovery ≡ recovery_of dead.0) }
         ensures disk { IfOk result (λ demon. demon.segments ≡ self.now.parties.segments) }
+        ensures issued { IfOk result (λ demon. demon.issued ≡ []) }
     {
         Demon::new(self.alloc, dead, self.parties.segments())
     }
@@ -102,6 +103,7 @@ impl World {
         requires may { IsTrue (may_recover (core_at self.old) dead.0 by.0) }
         requires demon { demon.recovery ≡ recovery_of dead.0 }
         requires disk { demon.segments ≡ self.old.parties.segments }
+        requires issued { demon.issued ≡ [] }
         ensures { core_at self.new ≡ recovering (core_at self.old) dead.0 by.0 }
     {
         let until = self.expiry(by);

@@ -6,7 +6,7 @@ ghost use Rattle.core_definitions.specs.Cores.{clean_at, expiry_of, first_core, 
 ghost use Rattle.core_definitions.specs.Settings.{setting_of};
 ghost use Rattle.core_definitions.specs.WriteGuards.{is_worker};
 ghost use Rattle.script_places.specs.Placed.{ascends};
-ghost use Rattle.world_state.specs.States.{core_at};
+ghost use Rattle.world_state.specs.States.{IsKept, core_at};
 
 use flight_laws::the_mounts_writes_are_the_cores;
 use frang_base::limits::LEASE_TICKS;
@@ -40,7 +40,7 @@ impl Model for World {
 
     ghost view = { λ w. record { places = w.places; run = w.run; tick = w.tick; parties = w.parties; locks = w.locks; flights = w.flights; ticks = w.ticks; over = w.over } };
 
-    ghost invariant = { λ w. IsKept w.tick w.ticks };
+    ghost invariant = { λ w. IsKept (record { places = w.places; run = w.run; tick = w.tick; parties = w.parties; locks = w.locks; flights = w.flights; ticks = w.ticks; over = w.over }) };
 }
 
 impl World {
@@ -65,6 +65,56 @@ impl World {
             over: false,
             alloc,
         })
+    }
+
+    /// The sixteen servers, and the recovery of the host.
+    pub fn parties(&self) -> &Parties
+        ensures { result.now ≡ self.now.parties }
+    {
+        &self.parties
+    }
+
+    /// The locks.
+    pub fn locks(&self) -> &LockTable
+        ensures { result.now ≡ self.now.locks }
+    {
+        &self.locks
+    }
+
+    /// The writes in flight.
+    pub fn flights(&self) -> &Flight
+        ensures { result.now ≡ self.now.flights }
+    {
+        &self.flights
+    }
+
+    /// The script with its marks.
+    pub fn places(&self) -> &Places
+        ensures { result.now ≡ self.now.places }
+    {
+        &self.places
+    }
+
+    /// The clock.
+    pub fn now(&self) -> u64
+        ensures { result ≡ self.now.tick }
+    {
+        self.tick
+    }
+
+    /// The number of the run.
+    pub fn run(&self) -> u32
+        ensures { result ≡ self.now.run }
+    {
+        self.run
+    }
+
+    /// Whether it is over: nothing happens any more. What its type keeps is known then.
+    pub fn is_over(&self) -> bool
+        ensures over { result ≡ self.now.over }
+        ensures kept { IsKept self.now }
+    {
+        self.over
     }
 
     /// The next line of a server or of the host: its first that isn't answered. `None` exactly where all its lines are.

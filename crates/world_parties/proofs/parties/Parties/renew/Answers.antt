@@ -2,6 +2,7 @@
 use Rattle.std.proofs.Common.{◌+◌}
 use Rattle.frang_base.specs.declared.limits.TheConstants.{LEASE_TICKS}
 use Rattle.world_parties.specs.States.{State}
+use Rattle.world_parties.proofs.Keeping.{keeps_in_place}
 use Rattle.world_parties.proofs.Changing.{becomes, kept_same}
 use Rattle.world_parties.proofs.parties.Parties.renew.Goals as goal
 
@@ -10,7 +11,12 @@ invariant_of-self c =
     let s : State = record { segments = c.self.inside.segments; parties = c.self.inside.list.items; host = c.self.inside.host; held = c.self.inside.held.items } in
     kept_same s c.args.a.0 c.from.result _ c.index_mut.result.now c.renew.new.self c.self.invariant c.requires.server c.from.ensures c.index_mut.ensures.value c.renew.ensures.id c.renew.ensures.recovery
 
-pub returns : goal.returns
-returns c =
+pub returns-clause-becomes : goal.returns-clause-becomes
+returns-clause-becomes c =
     let s : State = record { segments = c.self.inside.segments; parties = c.self.inside.list.items; host = c.self.inside.host; held = c.self.inside.held.items } in
     becomes s c.args.self.now c.args.a.0 c.from.result _ c.index_mut.result.now c.renew.new.self (λ server. record server { expiry = c.args.now + LEASE_TICKS }) c.self.view_is c.self.invariant c.requires.server c.from.ensures c.index_mut.ensures.value (c.renew.ensures.server)
+
+pub returns-clause-keeps : goal.returns-clause-keeps
+returns-clause-keeps c =
+    let s : State = record { segments = c.self.inside.segments; parties = c.self.inside.list.items; host = c.self.inside.host; held = c.self.inside.held.items } in
+    keeps_in_place s c.args.self.now c.args.a.0 c.from.result _ c.index_mut.result.now c.renew.new.self c.self.view_is c.self.invariant c.requires.server c.from.ensures c.index_mut.ensures.value c.renew.ensures.keeps

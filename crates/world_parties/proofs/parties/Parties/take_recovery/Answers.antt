@@ -3,6 +3,7 @@ use Rattle.std.proofs.Common.{None, sym, subst, ap, ◌∙◌}
 use Rattle.core_definitions.specs.Servers.{Server}
 use Rattle.world_parties.specs.States.{IsRecovery, State, server_of}
 use Rattle.world_parties.proofs.Reading.{found_fits, found_recovery, small_of}
+use Rattle.world_parties.proofs.Keeping.{rest_in_place, rest_of_host}
 use Rattle.world_parties.proofs.Changing.{becomes, kept_with, recovering_put}
 use Rattle.world_parties.proofs.parties.Parties.take_recovery.Goals as goal
 
@@ -32,3 +33,13 @@ pub returns-else-eq-clause-none : goal.returns-else-eq-clause-none
 returns-else-eq-clause-none c =
     let s : State = record { segments = c.self.inside.segments; parties = c.self.inside.list.items; host = c.self.inside.host; held = c.self.inside.held.items } in
     recovering_put s c.args.by.0 c.from.result c.take_recovery.new.self None c.self.invariant (small_of c.args.by.0 c.requires (sym c.eq.ensures ∙ c.if-eq.false)) c.from.ensures (ap (λ p. p.recovery) c.take_recovery.ensures.party)
+
+pub returns-then-eq-clause-rest : goal.returns-then-eq-clause-rest
+returns-then-eq-clause-rest c =
+    let s : State = record { segments = c.self.inside.segments; parties = c.self.inside.list.items; host = c.self.inside.host; held = c.self.inside.held.items } in
+    rest_of_host s c.args.self.now c.args.by.0 c.take.new.self c.self.view_is (sym c.eq.ensures ∙ c.if-eq.true)
+
+pub returns-else-eq-clause-rest : goal.returns-else-eq-clause-rest
+returns-else-eq-clause-rest c =
+    let s : State = record { segments = c.self.inside.segments; parties = c.self.inside.list.items; host = c.self.inside.host; held = c.self.inside.held.items } in
+    rest_in_place s c.args.self.now c.args.by.0 c.from.result _ c.index_mut.result.now c.take_recovery.new.self None c.self.view_is c.self.invariant (small_of c.args.by.0 c.requires (sym c.eq.ensures ∙ c.if-eq.false)) c.from.ensures c.index_mut.ensures.value c.take_recovery.ensures.party

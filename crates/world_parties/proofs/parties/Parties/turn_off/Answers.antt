@@ -1,6 +1,7 @@
 -- The mount has ended.
 use Rattle.core_definitions.specs.LineEffects.{off_after}
 use Rattle.world_parties.specs.States.{State}
+use Rattle.world_parties.proofs.Keeping.{keeps_in_place}
 use Rattle.world_parties.proofs.Changing.{becomes, kept_without}
 use Rattle.world_parties.proofs.parties.Parties.turn_off.Goals as goal
 
@@ -9,7 +10,12 @@ invariant_of-self c =
     let s : State = record { segments = c.self.inside.segments; parties = c.self.inside.list.items; host = c.self.inside.host; held = c.self.inside.held.items } in
     kept_without s c.args.a.0 c.from.result _ c.index_mut.result.now c.turn_off.new.self c.self.invariant c.requires c.from.ensures c.index_mut.ensures.value c.turn_off.ensures.id c.turn_off.ensures.recovery
 
-pub returns : goal.returns
-returns c =
+pub returns-clause-becomes : goal.returns-clause-becomes
+returns-clause-becomes c =
     let s : State = record { segments = c.self.inside.segments; parties = c.self.inside.list.items; host = c.self.inside.host; held = c.self.inside.held.items } in
     becomes s c.args.self.now c.args.a.0 c.from.result _ c.index_mut.result.now c.turn_off.new.self (off_after) c.self.view_is c.self.invariant c.requires c.from.ensures c.index_mut.ensures.value (c.turn_off.ensures.server)
+
+pub returns-clause-keeps : goal.returns-clause-keeps
+returns-clause-keeps c =
+    let s : State = record { segments = c.self.inside.segments; parties = c.self.inside.list.items; host = c.self.inside.host; held = c.self.inside.held.items } in
+    keeps_in_place s c.args.self.now c.args.a.0 c.from.result _ c.index_mut.result.now c.turn_off.new.self c.self.view_is c.self.invariant c.requires c.from.ensures c.index_mut.ensures.value c.turn_off.ensures.keeps

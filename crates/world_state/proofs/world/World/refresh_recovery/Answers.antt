@@ -3,10 +3,16 @@ use Rattle.std.proofs.Common.{ap, ◌∙◌}
 use Rattle.world_state.specs.States.{State, core_at}
 use Rattle.world_state.proofs.Effects.{same_is}
 use Rattle.world_state.proofs.Recovering.{is_party}
+use Rattle.world_state.proofs.Lasting.{parties_last}
 use Rattle.world_state.proofs.world.World.refresh_recovery.Goals as goal
 
 pub refresh-requires : goal.refresh-requires
 refresh-requires c = is_party (core_at c.args.self.now) c.args.by.0 c.requires
+
+pub invariant_of-self : goal.invariant_of-self
+invariant_of-self c =
+    let s : State = record { places = c.self.inside.places; run = c.self.inside.run; tick = c.self.inside.tick; parties = c.self.inside.parties; locks = c.self.inside.locks; flights = c.self.inside.flights; ticks = c.self.inside.ticks; over = c.self.inside.over } in
+    parties_last s c.refresh.new.self c.self.inside.locks c.self.invariant c.refresh.ensures.keeps c.refresh.ensures.same.stays.segments
 
 pub returns-clause-core : goal.returns-clause-core
 returns-clause-core c =

@@ -4,10 +4,16 @@ use Rattle.core_definitions.specs.Cores.{clean_at}
 use Rattle.core_definitions.specs.EndEffects.{closed}
 use Rattle.world_state.specs.States.{State, core_at}
 use Rattle.world_state.proofs.Effects.{turned_off_is}
+use Rattle.world_state.proofs.Lasting.{parties_last}
 use Rattle.world_state.proofs.world.World.turn_off.Goals as goal
+
+pub invariant_of-self : goal.invariant_of-self
+invariant_of-self c =
+    let s : State = record { places = c.self.inside.places; run = c.self.inside.run; tick = c.self.inside.tick; parties = c.self.inside.parties; locks = c.self.inside.locks; flights = c.self.inside.flights; ticks = c.self.inside.ticks; over = c.self.inside.over } in
+    parties_last s c.turn_off.new.self c.clear.new.self c.self.invariant c.turn_off.ensures.keeps c.turn_off.ensures.becomes.stays.segments
 
 pub returns : goal.returns
 returns c =
     let s : State = record { places = c.self.inside.places; run = c.self.inside.run; tick = c.self.inside.tick; parties = c.self.inside.parties; locks = c.self.inside.locks; flights = c.self.inside.flights; ticks = c.self.inside.ticks; over = c.self.inside.over } in
-    turned_off_is s c.turn_off.new.self c.clear.new.self c.args.a.0 c.turn_off.ensures c.clear.ensures.locks (ap (λ (s : State). clean_at (core_at s) c.args.a.0) c.self.view_is ∙ c.requires.clean)
+    turned_off_is s c.turn_off.new.self c.clear.new.self c.args.a.0 c.turn_off.ensures.becomes c.clear.ensures.locks (ap (λ (s : State). clean_at (core_at s) c.args.a.0) c.self.view_is ∙ c.requires.clean)
     ∙ ap (λ (s : State). closed (core_at s) c.args.a.0) c.self.view_is
