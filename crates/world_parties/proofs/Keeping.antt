@@ -230,7 +230,7 @@ module _ (old new : State) (by : ℕ) (recovery : Option Recovery) (rest : RestS
   recovery_keeps issued = record {
     flags = λ a. subst (λ (sectors : List ℕ). AreAmong sectors (flags_at old a)) (sym (rest.flags a)) (λ sector is. is);
     issued = λ a. ⊎_elim (λ e. subst (λ n. AreIssuedAmong (issued_at new n) (issued_at old n)) (sym e) issued)
-        (λ other. subst (λ (writes : List (ℕ × Block)). AreIssuedAmong writes (issued_at old a)) (sym (rest.issued a other)) (λ sector is. is)) (cases_eq a by);
+        (λ other. subst (λ (writes : List (ℕ × Block)). AreIssuedAmong writes (issued_at old a)) (sym (ap issued_in (rest.recoveries a other))) (λ sector is. is)) (cases_eq a by);
     plans = plan_same;
     oldest = oldest_same;
   }
@@ -241,7 +241,7 @@ module _ (old new : State) (by : ℕ) (recovery : Option Recovery) (rest : RestS
     flags = λ a x is. inl (subst (λ (sectors : List ℕ). member x sectors ≡ true) (rest.flags a) is);
     issued = λ a x. ⊎_elim (λ e. subst (λ n. is_some (value_at (issued_at new n) x) ≡ true → (is_some (value_at (issued_at old n) x) ≡ true) ⊎ ((n ≡ by) × (x ≡ sector))) (sym e)
         (λ is. ⊎_elim (λ h. inl h) (λ h. inr (refl, h)) (issued x is)))
-        (λ other is. inl (subst (λ (writes : List (ℕ × Block)). is_some (value_at writes x) ≡ true) (rest.issued a other) is)) (cases_eq a by);
+        (λ other is. inl (subst (λ (writes : List (ℕ × Block)). is_some (value_at writes x) ≡ true) (ap issued_in (rest.recoveries a other)) is)) (cases_eq a by);
     plans = plan_same;
     oldest = oldest_same;
   }
@@ -252,14 +252,14 @@ rest_then old between new by first second = record {
   flags = λ a. second.flags a ∙ first.flags a;
   plans = λ a. second.plans a ∙ first.plans a;
   oldest = λ a. second.oldest a ∙ first.oldest a;
-  issued = λ a other. second.issued a other ∙ first.issued a other;
+  recoveries = λ a other. second.recoveries a other ∙ first.recoveries a other;
 }
 
 -- a server's recovery in its place, and the host's
 pub rest_in_place : (s old : State) (a i : ℕ) (d party new : Party) (recovery : Option Recovering) → s ≡ old → AreKept s → a < SERVERS → i ≡ a → party ≡ get_or s.parties i d
     → new ≡ record party { recovery = recovery } → RestStays old (record s { parties = set s.parties i new }) a
 rest_in_place s old a i d party new recovery seen kept small at was is =
-    record { flags = λ b. (each b).flags; plans = λ b. (each b).plan; oldest = λ b. (each b).oldest; issued = λ b other. ap issued_in ((each b).recovering other) }
+    record { flags = λ b. (each b).flags; plans = λ b. (each b).plan; oldest = λ b. (each b).oldest; recoveries = λ b other. (each b).recovering other }
   where
     each : (b : ℕ) → SameBut a b (view_at old b) (view_at (record s { parties = set s.parties i new }) b)
     each = at_each old (record s { parties = set s.parties i new }) a party new (SameBut a) small (found_place s old a i d party seen kept small at was) (set_puts s old a i new seen kept small at)
@@ -271,7 +271,7 @@ host_recovering s by recovery is_host = ap (λ (t : Bool). if t then recovery el
 
 pub rest_of_host : (s old : State) (by : ℕ) (recovery : Option Recovering) → s ≡ old → (by == host_party) ≡ true → RestStays old (record s { host = recovery }) by
 rest_of_host s old by recovery seen is_host = subst (λ o. RestStays o (record s { host = recovery }) by) seen
-    (record { flags = λ a. refl; plans = λ a. refl; oldest = λ a. refl; issued = λ a other. ap issued_in (at a other) })
+    (record { flags = λ a. refl; plans = λ a. refl; oldest = λ a. refl; recoveries = at })
   where
     at : (a : ℕ) → (a ≡ by → ⊥) → recovering_by (record s { host = recovery }) a ≡ recovering_by s a
     at a other = by_test (nat_eq a host_party) refl

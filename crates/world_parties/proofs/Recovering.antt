@@ -115,7 +115,7 @@ module _ (old between new : State) (by : ℕ) (taken : Option Recovering) (r aft
   anew : Becomes old new by (record (servers_at old by) { recovery = Some after.recovery })
   anew = becomes_anew old between new by (Some after.recovery) out back
 
-  rest : RestStays old new by
+  pub rest : RestStays old new by
   rest = rest_then old between new by out_rest back_rest
 
   there : issued_at old by ≡ r.issued

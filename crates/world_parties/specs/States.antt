@@ -167,7 +167,7 @@ pub record RestStays (old new : State) (by : ℕ) : Type 0 where
   pub flags : (a : ℕ) → flags_at new a ≡ flags_at old a
   pub plans : (a : ℕ) → plan_at new a ≡ plan_at old a
   pub oldest : (a : ℕ) → oldest_at new a ≡ oldest_at old a
-  pub issued : (a : ℕ) → (a ≡ by → ⊥) → issued_at new a ≡ issued_at old a
+  pub recoveries : (a : ℕ) → (a ≡ by → ⊥) → recovering_by new a ≡ recovering_by old a
 
 -- ---- a party out of its place
 

@@ -94,6 +94,7 @@ impl Parties {
         requires { IsTrue (is_server by.0 || by.0 == host_party) }
         ensures same { IsSame self.old self.new }
         ensures keeps { Keeps self.old self.new }
+        ensures rest { RestStays self.old self.new by.0 }
         ensures ok { OnOk result (IsFresh self.new by.0) }
     {
         match self.take_recovery(by) {
@@ -111,6 +112,7 @@ impl Parties {
         requires { IsTrue (is_server by.0 || by.0 == host_party) }
         ensures same { IsSame self.old self.new }
         ensures keeps { Keeps self.old self.new }
+        ensures rest { RestStays self.old self.new by.0 }
         ensures fresh { OnOk result (IsFresh self.new by.0) }
         ensures ready { OnOk result (IsReady self.new by.0) }
     {

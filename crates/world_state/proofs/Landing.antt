@@ -8,7 +8,7 @@ use Rattle.petal_disk.specs.Flying.{InFlight, puts}
 use Rattle.flight_laws.specs.Flights.{flight_of, flights_of}
 use Rattle.flight_laws.specs.Laws.{AWriteIsTheCores}
 use Rattle.core_definitions.specs.Flights as core
-use Rattle.world_parties.specs.States.{IsReady}
+use Rattle.world_parties.specs.States.{IsReady, State as Parties}
 use Rattle.world_state.specs.Rooms.{HasLossRoom}
 use Rattle.world_state.specs.States.{IsWriteOf, State, core_at}
 
@@ -39,3 +39,9 @@ loss_ready s ticket server sector = go (value_at (core_at s).flights ticket)
     go : (o : Option core.Flight) → IsSomeAnd o (λ flight. (flight.server ≡ server) × (flight.sector ≡ sector)) → IfSome o (λ flight. IsReady s.parties flight.server) → IsReady s.parties server
     go None is ready = absurd is
     go (Some flight) is ready = subst (IsReady s.parties) is.0 ready
+
+-- it is made ready by the number of that party
+pub loss_made_ready : (parties : Parties) (there : Option core.Flight) (by : ℕ) → Some by ≡ option_map (λ (flight : core.Flight). flight.server) there → IsReady parties by
+    → IfSome there (λ flight. IsReady parties flight.server)
+loss_made_ready parties None by is ready = tt
+loss_made_ready parties (Some flight) by is ready = let same : by ≡ flight.server = cc is in subst (IsReady parties) same ready

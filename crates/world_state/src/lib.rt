@@ -9,6 +9,7 @@ mod answering;
 mod arriving;
 mod clock;
 mod ends;
+mod gate;
 mod guards;
 mod issuing;
 mod keeping;

@@ -1,5 +1,5 @@
 // What the events of lines and locks do that need no plan: Begin, Ask, Give.
-ghost use Rattle.std.specs.Prelude.{◌≡◌, ◌<◌, IfOk, IsSome, IsSomeAnd, IsTrue, OnErr, OnOk, Some};
+ghost use Rattle.std.specs.Prelude.{◌≡◌, ◌<◌, IfOk, IsOk, IsSome, IsSomeAnd, IsTrue, OnErr, OnOk, Some};
 ghost use Rattle.std.specs.Option.{option_copied};
 ghost use Rattle.frang_base.specs.declared.limits.TheConstants.{SERVERS};
 ghost use Rattle.core_definitions.specs.Cores.{next_of};
@@ -8,6 +8,7 @@ ghost use Rattle.core_definitions.specs.Lines.{operation_of};
 ghost use Rattle.core_definitions.specs.WriteEffects.{given};
 ghost use Rattle.core_definitions.specs.WriteGuards.{may_give};
 ghost use Rattle.lock_definitions.specs.Calls.{asked_for};
+ghost use Rattle.lock_table.specs.Table.{HasRoom};
 ghost use Rattle.world_state.specs.Begins.{Begins};
 ghost use Rattle.world_state.specs.States.{core_at};
 
@@ -60,11 +61,21 @@ impl World {
 // ---- locks
 
 impl World {
-    /// Ask: the lock is granted, or the wish is noted. After `NoMemory` nothing has changed.
+    /// Makes room for a server's want of a lock. The core is the same, whatever the answer.
+    pub fn ready_ask(&mut self, a: ServerId, lock: LockId) -> Result<(), NoMemory>
+        requires { a.0 < SERVERS }
+        ensures core { core_at self.new ≡ core_at self.old }
+        ensures ok { OnOk result (HasRoom self.new.locks a.0 lock) }
+    {
+        self.locks.reserve(a, lock)
+    }
+
+    /// Ask: the lock is granted, or the wish is noted. After `NoMemory`, which doesn't come where there is room, nothing has changed.
     pub fn ask(&mut self, a: ServerId, lock: LockId, mode: Mode) -> Result<(), NoMemory>
         requires { a.0 < SERVERS }
         ensures ok { OnOk result (core_at self.new ≡ asked (core_at self.old) a.0 lock mode) }
         ensures err { OnErr result (core_at self.new ≡ core_at self.old) }
+        ensures sure { HasRoom self.old.locks a.0 lock → IsOk result }
     {
         self.locks.want(a, lock, mode)?;
         Ok(())

@@ -1,13 +1,15 @@
 // Recoveries: Recover, Load, Look, Finish.
-ghost use Rattle.std.specs.Prelude.{◌≡◌, ◌&&◌, [], IfOk, IsTrue, OnOk};
+ghost use Rattle.std.specs.Prelude.{◌≡◌, ◌&&◌, ◌||◌, ◌==◌, [], IfOk, IsTrue, OnOk};
 ghost use Rattle.std.specs.List.{list_any};
 ghost use Rattle.core_definitions.specs.Cores.{parties};
 ghost use Rattle.core_definitions.specs.EndEffects.{finished, loaded, looked, recovering};
 ghost use Rattle.core_definitions.specs.EndGuards.{is_hold_over, is_recovering, is_recovery, is_through, is_to_recover, may_finish, may_recover, may_take, none_up, wants_look, wants_slot};
+ghost use Rattle.core_definitions.specs.LineGuards.{is_server};
 ghost use Rattle.core_definitions.specs.Recoveries.{recovery_of};
+ghost use Rattle.core_definitions.specs.Scripts.{host_party};
 ghost use Rattle.core_definitions.specs.WriteGuards.{is_worker};
 ghost use Rattle.tree_definitions.specs.Numbers.{below};
-ghost use Rattle.world_parties.specs.States.{IsFresh, IsReady};
+ghost use Rattle.world_parties.specs.States.{IsFresh, IsReady, RestStays};
 ghost use Rattle.world_state.specs.States.{IsRecoveredBy, core_at};
 
 use crate::world::World;
@@ -201,8 +203,9 @@ impl World {
 impl World {
     /// What the slots of a party's recovery say is read off them, if it carries out one. The core is the same, whatever the answer.
     pub fn refresh_recovery(&mut self, by: ServerId) -> Result<(), NoMemory>
-        requires { IsTrue (is_worker (core_at self.old) by.0) }
+        requires { IsTrue (is_server by.0 || by.0 == host_party) }
         ensures core { core_at self.new ≡ core_at self.old }
+        ensures rest { RestStays self.old.parties self.new.parties by.0 }
         ensures ok { OnOk result (IsFresh self.new.parties by.0) }
     {
         self.parties.refresh(by)
@@ -212,6 +215,7 @@ impl World {
     pub fn ready_recovery(&mut self, by: ServerId) -> Result<(), NoMemory>
         requires { IsTrue (is_worker (core_at self.old) by.0) }
         ensures core { core_at self.new ≡ core_at self.old }
+        ensures rest { RestStays self.old.parties self.new.parties by.0 }
         ensures fresh { OnOk result (IsFresh self.new.parties by.0) }
         ensures ready { OnOk result (IsReady self.new.parties by.0) }
     {

@@ -2,7 +2,7 @@
 use Rattle.std.proofs.Common.{Option, IfSome, IsTrue, sym, subst, ap}
 use Rattle.std.proofs.lemmas.Result.{on_ok_weaker}
 use Rattle.recovery_demon.specs.Recovering.{Recovering}
-use Rattle.world_parties.proofs.Recovering.{ascend_same, back_keeps, back_same, fits_back, issued_same, none_keeps, none_same}
+use Rattle.world_parties.proofs.Recovering.{ascend_same, back_keeps, back_same, fits_back, issued_same, none_keeps, none_same, rest}
 use Rattle.world_parties.proofs.parties.Parties.ready.Goals as goal
 
 pub set_recovery-requires-clause-fits : goal.set_recovery-requires-clause-fits
@@ -47,3 +47,7 @@ returns-in-Some-clause-keeps c =
 
 pub returns-in-None-clause-keeps : goal.returns-in-None-clause-keeps
 returns-in-None-clause-keeps c = none_keeps c.args.self.now c.take_recovery.new.self c.args.by.0 c.take_recovery.ensures.gone c.take_recovery.ensures.rest c.take_recovery.ensures.none
+
+pub returns-in-Some-clause-rest : goal.returns-in-Some-clause-rest
+returns-in-Some-clause-rest c = rest c.args.self.now c.take_recovery.new.self c.set_recovery.new.self c.args.by.0 c.take_recovery.result c.in-Some.demon c.ready-made.new.self c.take_recovery.ensures.is c.in-Some.is
+    c.take_recovery.ensures.gone c.set_recovery.ensures.becomes c.take_recovery.ensures.rest c.set_recovery.ensures.rest c.set_recovery.ensures.is

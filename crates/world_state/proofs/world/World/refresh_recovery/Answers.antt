@@ -1,13 +1,10 @@
 -- The core knows nothing of it.
-use Rattle.std.proofs.Common.{ap, ◌∙◌}
+use Rattle.std.proofs.Common.{ap, ◌∙◌, subst}
+use Rattle.world_parties.specs.States.{RestStays}
 use Rattle.world_state.specs.States.{State, core_at}
 use Rattle.world_state.proofs.Effects.{same_is}
-use Rattle.world_state.proofs.Recovering.{is_party}
 use Rattle.world_state.proofs.Lasting.{parties_last}
 use Rattle.world_state.proofs.world.World.refresh_recovery.Goals as goal
-
-pub refresh-requires : goal.refresh-requires
-refresh-requires c = is_party (core_at c.args.self.now) c.args.by.0 c.requires
 
 pub invariant_of-self : goal.invariant_of-self
 invariant_of-self c =
@@ -18,3 +15,6 @@ pub returns-clause-core : goal.returns-clause-core
 returns-clause-core c =
     let s : State = record { places = c.self.inside.places; run = c.self.inside.run; tick = c.self.inside.tick; parties = c.self.inside.parties; locks = c.self.inside.locks; flights = c.self.inside.flights; ticks = c.self.inside.ticks; over = c.self.inside.over } in
     same_is s c.refresh.new.self c.refresh.ensures.same ∙ ap core_at c.self.view_is
+
+pub returns-clause-rest : goal.returns-clause-rest
+returns-clause-rest c = subst (λ (o : State). RestStays o.parties c.refresh.new.self c.args.by.0) c.self.view_is c.refresh.ensures.rest

@@ -1,0 +1,10 @@
+pub mod TicksBefore
+pub mod Giving
+pub mod Places
+pub mod UnreadSectors
+pub mod Due
+pub mod PartyOf
+pub mod LineStages
+pub mod IssuerOf
+pub mod NeededSectors
+pub mod BesideParties

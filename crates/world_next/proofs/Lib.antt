@@ -1,0 +1,14 @@
+mod Firsts
+mod Joined
+mod Together
+mod Flying
+mod Lining
+mod Living
+mod Recovering
+mod OfOneDisk
+mod Beginning
+mod Ending
+mod Telling
+mod Ticking
+mod Gating
+mod Deciding
