@@ -15,7 +15,7 @@ option_rule name = record (many_rule name) { long = Some name }
 
 -- what may follow a command's name
 abbrev pub words_app : Text → App
-words_app name = with_rule (with_rule (with_rule (new_app name) (many_rule (codes "places"))) (option_rule (codes "segments"))) (option_rule (codes "save"))
+words_app name = with_rule (with_rule (with_rule (with_rule (new_app name) (many_rule (codes "places"))) (option_rule (codes "segments"))) (option_rule (codes "save"))) (option_rule (codes "order"))
 
 -- the line without its commands: there are no words but ours, so no help and no name of the program
 abbrev pub bare_line : App
@@ -40,7 +40,12 @@ abbrev pub texts_in : Text → List Row → List Text
 texts_in id rows = unwrap_or (all_of id rows) []
 
 abbrev pub given_in : List Row → Given
-given_in rows = record { places = texts_in (codes "places") rows; segments = texts_in (codes "segments") rows; save = texts_in (codes "save") rows }
+given_in rows = record {
+  places = texts_in (codes "places") rows;
+  segments = texts_in (codes "segments") rows;
+  save = texts_in (codes "save") rows;
+  order = texts_in (codes "order") rows;
+}
 
 -- what a command that was met asks
 abbrev pub asked_entered : Option (Text × List Row) → Option Asked

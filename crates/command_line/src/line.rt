@@ -21,7 +21,11 @@ fn command_named<'a>(alloc: Global, name: &'a str) -> Result<Command<'a>, AllocE
     let save = Arg::new(alloc, "save")
         .long("save")
         .action(ArgAction::Append);
-    with_segments.arg(save)
+    let with_save = with_segments.arg(save)?;
+    let order = Arg::new(alloc, "order")
+        .long("order")
+        .action(ArgAction::Append);
+    with_save.arg(order)
 }
 
 fn with_command<'a>(

@@ -15,6 +15,7 @@ fn given_in<'m, 'a>(matches: &'m ArgMatches<'a>) -> GivenWords<'m, 'a>
         places: matches.get_strs("places"),
         segments: matches.get_strs("segments"),
         save: matches.get_strs("save"),
+        order: matches.get_strs("order"),
     }
 }
 

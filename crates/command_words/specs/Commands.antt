@@ -1,14 +1,15 @@
 -- What the words of a command line ask.
-use Rattle.std.specs.Prelude.{ℕ, if◌then◌else◌, Option, Some, None, List, [], ◌∷◌, codes, option_and_then, option_map}
+use Rattle.std.specs.Prelude.{ℕ, ◌-◌, ◌^◌, if◌then◌else◌, Option, Some, None, List, [], ◌∷◌, codes, option_and_then, option_map}
 use Rattle.std.specs.Str.{bytes_eq}
 use Rattle.frang_base.specs.declared.limits.TheConstants.{SEGMENTS_DEFAULT, SEGMENTS_MAX}
 use Rattle.script_definitions.specs.Numerals.{number_in}
 use Rattle.command_words.specs.Given.{Given, given_by}
 
--- to run a script, by its name, on a fresh disk of so many segments
+-- to run a script, by its name, on a fresh disk of so many segments; where an order is given, in this order of events
 pub record Asks : Type 0 where
   pub script : List ℕ
   pub segments : ℕ
+  pub order : Option ℕ
 
 -- to recover an image, by its name, and to save it where a name is given; to tell its tree; to tell a log of it; to tell the report of its check
 pub data ImageAsks : Type 0 where
@@ -50,19 +51,26 @@ abbrev pub segments_in : Option (List ℕ) → Option ℕ
 segments_in None = Some SEGMENTS_DEFAULT
 segments_in (Some value) = number_in 1 SEGMENTS_MAX value
 
--- run SCRIPT [--segments S]
+-- the order that is asked for, where one is
+abbrev pub order_in : Option (List ℕ) → Option (Option ℕ)
+order_in None = Some None
+order_in (Some value) = option_map (λ order. Some order) (number_in 0 (2 ^ 64 - 1) value)
+
+-- run SCRIPT [--segments S] [--order N]
 abbrev pub run_by : Given → Option Asks
 run_by given =
-    option_and_then (λ script. option_map (λ segments. record { script = script; segments = segments }) (option_and_then segments_in (at_most_one given.segments)))
+    option_and_then
+    (λ script. option_and_then (λ segments. option_map (λ order. record { script = script; segments = segments; order = order }) (option_and_then order_in (at_most_one given.order)))
+    (option_and_then segments_in (at_most_one given.segments)))
     (unless given.save (only given.places))
 
 -- recover IMAGE [--save FILE]
 abbrev pub recover_by : Given → Option ImageAsks
-recover_by given = option_and_then (λ image. option_map (λ save. Recover image save) (at_most_one given.save)) (unless given.segments (only given.places))
+recover_by given = option_and_then (λ image. option_map (λ save. Recover image save) (at_most_one given.save)) (unless given.order (unless given.segments (only given.places)))
 
 -- a word, where no option is given
 abbrev pub bare : Given → Option (List ℕ) → Option (List ℕ)
-bare given word = unless given.save (unless given.segments word)
+bare given word = unless given.order (unless given.save (unless given.segments word))
 
 -- tree IMAGE
 abbrev pub tree_by : Given → Option ImageAsks

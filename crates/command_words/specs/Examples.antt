@@ -1,6 +1,6 @@
 -- What some words ask.
-use Rattle.std.specs.Prelude.{◌≡◌, Some, None, [], ◌∷◌, codes, refl}
-use Rattle.command_words.specs.Commands.{OnImage, Recover, Tree, Log, Fsck, asked_by}
+use Rattle.std.specs.Prelude.{◌≡◌, ◌-◌, ◌^◌, Some, None, [], ◌∷◌, codes, refl}
+use Rattle.command_words.specs.Commands.{OnImage, Run, Recover, Tree, Log, Fsck, asked_by}
 
 -- a name and its option, which may stand before it
 with_a_save : asked_by (codes "recover" ∷ codes "--save" ∷ codes "new" ∷ codes "img" ∷ []) ≡ Some (OnImage (Recover (codes "img") (Some (codes "new"))))
@@ -27,6 +27,25 @@ another_option = refl
 
 given_twice : asked_by (codes "run" ∷ codes "s" ∷ codes "--segments=2" ∷ codes "--segments=2" ∷ []) ≡ None
 given_twice = refl
+
+-- the last order, and one past it; an order has no sign and no leading zero, and is a run's
+last_order : asked_by (codes "run" ∷ codes "--order" ∷ codes "18446744073709551615" ∷ codes "s" ∷ []) ≡ Some (Run (record { script = codes "s"; segments = 16; order = Some (2 ^ 64 - 1) }))
+last_order = refl
+
+no_order : asked_by (codes "run" ∷ codes "s" ∷ codes "--order=18446744073709551616" ∷ []) ≡ None
+no_order = refl
+
+signed_order : asked_by (codes "run" ∷ codes "s" ∷ codes "--order=+1" ∷ []) ≡ None
+signed_order = refl
+
+padded_order : asked_by (codes "run" ∷ codes "s" ∷ codes "--order=01" ∷ []) ≡ None
+padded_order = refl
+
+ordered_twice : asked_by (codes "run" ∷ codes "s" ∷ codes "--order=1" ∷ codes "--order=1" ∷ []) ≡ None
+ordered_twice = refl
+
+an_ordered_tree : asked_by (codes "tree" ∷ codes "img" ∷ codes "--order=1" ∷ []) ≡ None
+an_ordered_tree = refl
 
 unknown : asked_by (codes "run" ∷ codes "--help" ∷ codes "s" ∷ []) ≡ None
 unknown = refl

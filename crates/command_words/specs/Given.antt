@@ -9,12 +9,14 @@ use Rattle.std.specs.List.{after_first, before_first, list_any}
 pub data CommandOption : Type 0 where
   Segments : CommandOption
   Save : CommandOption
+  Order : CommandOption
 
 -- what words give, each list in the words' order: the positional words, and the values of each option
 pub record Given : Type 0 where
   pub places : List (List ℕ)
   pub segments : List (List ℕ)
   pub save : List (List ℕ)
+  pub order : List (List ℕ)
 
 -- words that were read: what they gave, the option whose value the next word has to be, and whether options have ended
 pub record Reading : Type 0 where
@@ -23,7 +25,7 @@ pub record Reading : Type 0 where
   pub ended : Bool
 
 abbrev pub nothing_read : Reading
-nothing_read = record { given = record { places = []; segments = []; save = [] }; awaited = None; ended = false }
+nothing_read = record { given = record { places = []; segments = []; save = []; order = [] }; awaited = None; ended = false }
 
 -- a word that begins with `-` and is longer than that
 abbrev pub is_dashed : List ℕ → Bool
@@ -39,13 +41,15 @@ with_place word given = record given { places = given.places ++ word ∷ [] }
 abbrev pub with_value : CommandOption → List ℕ → Given → Given
 with_value Segments value given = record given { segments = given.segments ++ value ∷ [] }
 with_value Save value given = record given { save = given.save ++ value ∷ [] }
+with_value Order value given = record given { order = given.order ++ value ∷ [] }
 
 -- the option that a text names
 abbrev pub option_named : List ℕ → Option CommandOption
 option_named name =
     if bytes_eq name (codes "segments") then Some Segments
     else (if bytes_eq name (codes "save") then Some Save
-    else None)
+    else (if bytes_eq name (codes "order") then Some Order
+    else None))
 
 -- what stands before the first `=` of a text, and what stands after it, where there is one
 abbrev pub is_equals : ℕ → Bool

@@ -24,10 +24,10 @@ abbrev pub pair_of : Option (Bor (List ℕ) × Bor (List ℕ)) → Option (List 
 pair_of words = option_map (λ w. (w.0.now, w.1.now)) words
 
 abbrev pub given_of : GivenWords → Given
-given_of g = record { places = texts_of g.places; segments = texts_of g.segments; save = texts_of g.save }
+given_of g = record { places = texts_of g.places; segments = texts_of g.segments; save = texts_of g.save; order = texts_of g.order }
 
 abbrev pub asks_of : RunCommand → Asks
-asks_of run = record { script = run.script.now; segments = run.segments }
+asks_of run = record { script = run.script.now; segments = run.segments; order = run.order }
 
 abbrev pub image_asks_of : ImageCommand → ImageAsks
 image_asks_of (image.Recover name save) = Recover name.now (text_of save)
@@ -39,7 +39,11 @@ abbrev pub asked_of : Command → Asked
 asked_of (command.Run run) = Run (asks_of run)
 asked_of (command.OnImage asks) = OnImage (image_asks_of asks)
 
--- a run has no more segments than a disk may have
+-- a disk may have so many segments
+abbrev pub HasSize : ℕ → Type 0
+HasSize segments = (1 ≤ segments) × (segments ≤ SEGMENTS_MAX)
+
+-- a run has as many segments as a disk may have
 abbrev pub HasSegments : Command → Type 0
-HasSegments (command.Run run) = run.segments ≤ SEGMENTS_MAX
+HasSegments (command.Run run) = HasSize run.segments
 HasSegments (command.OnImage asks) = Unit {0}

@@ -4,15 +4,17 @@ ghost use Rattle.frang_base.specs.declared.limits.TheConstants.{SEGMENTS_MAX};
 ghost use Rattle.command_words.specs.Commands.{asked_with, bare, fsck_by, image_asked, log_by, recover_by, run_by, segments_in, tree_by};
 ghost use Rattle.command_words.specs.Views.{HasSegments, asked_of, asks_of, given_of, image_asks_of, text_of};
 
+use crate::orders::order_in;
 use crate::words::{GivenWords, at_most_one, only, only_two, unless};
 use frang_base::limits::{SEGMENTS_DEFAULT, SEGMENTS_MAX};
 use script_definitions::number_within;
 
-/// A script to be run on a fresh disk of so many segments, 1 to 64.
+/// A script to be run on a fresh disk of so many segments, 1 to 64, in the order of events that this number picks, where one is given.
 #[derive(Clone, Copy)]
 pub struct RunCommand<'a> {
     pub script: &'a str,
     pub segments: u32,
+    pub order: Option<u64>,
 }
 
 /// A command on an image, by the image's name.
@@ -45,9 +47,10 @@ pub enum Command<'a> {
     OnImage(ImageCommand<'a>),
 }
 
-#[tactic(auto, using(script_definitions::proofs::NumeralLaws::number_in_most))]
+#[tactic(auto, using(script_definitions::proofs::NumeralLaws::number_in_most, crate::proofs::Numbers::number_in_least))]
 fn segments_in(value: Option<&str>) -> Option<u32>
     ensures is { result ≡ segments_in (text_of value.entry) }
+    ensures least { IfSome result (λ segments. 1 ≤ segments) }
     ensures most { IfSome result (λ segments. segments ≤ SEGMENTS_MAX) }
 {
     match value {
@@ -58,17 +61,23 @@ fn segments_in(value: Option<&str>) -> Option<u32>
 
 fn run_by<'a>(given: GivenWords<'_, 'a>) -> Option<RunCommand<'a>>
     ensures is { option_map asks_of result ≡ run_by (given_of given.entry) }
+    ensures least { IfSome result (λ run. 1 ≤ run.segments) }
     ensures most { IfSome result (λ run. run.segments ≤ SEGMENTS_MAX) }
 {
     let script = unless(given.save, only(given.places))?;
     let segments = segments_in(at_most_one(given.segments)?)?;
-    Some(RunCommand { script, segments })
+    let order = order_in(at_most_one(given.order)?)?;
+    Some(RunCommand {
+        script,
+        segments,
+        order,
+    })
 }
 
 fn recover_by<'a>(given: GivenWords<'_, 'a>) -> Option<ImageCommand<'a>>
     ensures { option_map image_asks_of result ≡ recover_by (given_of given.entry) }
 {
-    let image = unless(given.segments, only(given.places))?;
+    let image = unless(given.order, unless(given.segments, only(given.places)))?;
     let save = at_most_one(given.save)?;
     Some(ImageCommand::Recover { image, save })
 }
@@ -77,7 +86,10 @@ fn recover_by<'a>(given: GivenWords<'_, 'a>) -> Option<ImageCommand<'a>>
 fn bare<'a>(given: GivenWords<'_, '_>, word: Option<&'a str>) -> Option<&'a str>
     ensures { text_of result ≡ bare (given_of given.entry) (text_of word.entry) }
 {
-    unless(given.save, unless(given.segments, word))
+    unless(
+        given.order,
+        unless(given.save, unless(given.segments, word)),
+    )
 }
 
 fn tree_by<'a>(given: GivenWords<'_, 'a>) -> Option<ImageCommand<'a>>

@@ -4,6 +4,7 @@
 #![tactic(auto)]
 
 mod commands;
+mod orders;
 mod words;
 
 pub use commands::{Command, ImageCommand, RunCommand, asked_with};

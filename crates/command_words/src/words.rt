@@ -9,6 +9,7 @@ pub struct GivenWords<'m, 'a> {
     pub places: Option<&'m [&'a str]>,
     pub segments: Option<&'m [&'a str]>,
     pub save: Option<&'m [&'a str]>,
+    pub order: Option<&'m [&'a str]>,
 }
 
 /// The only word.

@@ -1,4 +1,4 @@
-//! Does each example and compares what is said with the text beside it. The files of `examples/` are those of this crate's data, and the
+//! Does each example, scripts in the order of events that 0 picks, and compares what is said with the text beside it. The files of `examples/` are those of this crate's data, and the
 //! program prints a line for each script that it found, and for each command on an image. Where all are as said, it goes on as the program
 //! `frang` itself: its stored run asks for a script of exactly as many bytes as a script may have, whose lines follow.
 #![tactic(auto)]
@@ -10,6 +10,7 @@ use std::collections::BTreeSet;
 use std::fs;
 use std::process::ExitCode;
 use std::rt::Runtime;
+use std::sync::Wait;
 use std::thread::Threads;
 
 // The images, by their names before `.image`.
@@ -83,7 +84,7 @@ fn words_of(alloc: Global, line: &str) -> anyhow::Result<Vec<String>> {
 }
 
 // Whether a call with the words of this line tells this.
-fn is_told<R: Threads + Sync, F: Files>(
+fn is_told<R: Threads + Wait + Sync, F: Files>(
     rt: &R,
     alloc: Global,
     files: &mut F,
@@ -94,7 +95,7 @@ fn is_told<R: Threads + Sync, F: Files>(
     is_told_by(rt, alloc, files, &words, wanted)
 }
 
-fn is_told_by<R: Threads + Sync, F: Files>(
+fn is_told_by<R: Threads + Wait + Sync, F: Files>(
     rt: &R,
     alloc: Global,
     files: &mut F,
@@ -107,7 +108,7 @@ fn is_told_by<R: Threads + Sync, F: Files>(
 }
 
 // Whether a call with the words of this line says what the text has, and then what its status means.
-fn is_as_said<R: Threads + Sync, F: Files>(
+fn is_as_said<R: Threads + Wait + Sync, F: Files>(
     rt: &R,
     alloc: Global,
     files: &mut F,
@@ -120,18 +121,18 @@ fn is_as_said<R: Threads + Sync, F: Files>(
     }
 }
 
-fn is_run_as_said<R: Threads + Sync, F: Files>(
+fn is_run_as_said<R: Threads + Wait + Sync, F: Files>(
     rt: &R,
     alloc: Global,
     files: &mut F,
     name: &str,
 ) -> anyhow::Result<bool> {
-    let line = format!(in alloc; "run {name}.frang")?;
+    let line = format!(in alloc; "run {name}.frang --order 0")?;
     let told = format!(in alloc; "{name}.said")?;
     is_as_said(rt, alloc, files, line.as_str(), told.as_str())
 }
 
-fn is_image_as_said<R: Threads + Sync, F: Files>(
+fn is_image_as_said<R: Threads + Wait + Sync, F: Files>(
     rt: &R,
     alloc: Global,
     files: &mut F,
@@ -155,7 +156,7 @@ fn report<R: Runtime>(rt: &R, example: &str, is_as_said: bool) -> anyhow::Result
 }
 
 // Prints whether what a command says of an image is as said, and gives that.
-fn report_image<R: Runtime + Threads + Sync, F: Files>(
+fn report_image<R: Runtime + Threads + Wait + Sync, F: Files>(
     rt: &R,
     alloc: Global,
     files: &mut F,
@@ -168,7 +169,7 @@ fn report_image<R: Runtime + Threads + Sync, F: Files>(
     report(rt, example.as_str(), same)
 }
 
-fn are_images_as_said<R: Runtime + Threads + Sync, F: Files>(
+fn are_images_as_said<R: Runtime + Threads + Wait + Sync, F: Files>(
     rt: &R,
     alloc: Global,
     files: &mut F,
@@ -182,7 +183,7 @@ fn are_images_as_said<R: Runtime + Threads + Sync, F: Files>(
     Ok(all)
 }
 
-fn are_scripts_as_said<R: Runtime + Threads + Sync, F: Files>(
+fn are_scripts_as_said<R: Runtime + Threads + Wait + Sync, F: Files>(
     rt: &R,
     alloc: Global,
     files: &mut F,
@@ -195,7 +196,7 @@ fn are_scripts_as_said<R: Runtime + Threads + Sync, F: Files>(
     Ok(all)
 }
 
-fn are_all_as_said<R: Runtime + Threads + Send + Sync>(
+fn are_all_as_said<R: Runtime + Threads + Wait + Send + Sync>(
     rt: &R,
     alloc: Global,
 ) -> anyhow::Result<bool> {

@@ -8,9 +8,9 @@ use Rattle.hall_runs.specs.declared.event.End.TheVariants.{Ended, Mute, Fault}
 use Rattle.hall_runs.specs.Keeping.{Kept}
 use Rattle.frang_hall.specs.declared.room.Finish.{Finish}
 
--- a finish tells how the hall is over, and how many lines it said; want of memory tells nothing
+-- a finish tells how the hall is over, and how many lines it said; at want of memory it isn't over
 abbrev pub Finished : Option End → ℕ → Result Finish NoMemory → Type 0
-Finished over said (Err e) = Unit {0}
+Finished over said (Err e) = over ≡ None
 Finished None said (Ok f) = ⊥
 Finished (Some Ended) said (Ok f) = f ≡ record { mute = false; fault = None; said = said }
 Finished (Some Mute) said (Ok f) = f ≡ record { mute = true; fault = None; said = said }

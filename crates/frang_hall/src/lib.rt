@@ -13,4 +13,4 @@ pub use hall::Hall;
 pub use machine::Machine;
 pub use name::Naming;
 pub use room::{Finish, run_order, run_threads};
-pub use top::run_machine;
+pub use top::{run_drawn, run_machine};

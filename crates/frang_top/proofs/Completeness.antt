@@ -11,8 +11,9 @@ use Rattle.image_commands.proofs.AskedLaws.{complete as told_complete}
 use Rattle.frang_top.specs.declared.outcome.Outcome.{Outcome}
 use Rattle.frang_top.specs.declared.outcome.Outcome.TheVariants as ends
 use Rattle.frang_top.specs.declared.outcome.Status.{Status}
-use Rattle.script_runs.specs.Built.{built_script_of}
-use Rattle.frang_top.specs.Top.{AreHeld, HasFile, Ends, EndsFile, EndsRun, HasRun, HasRunFor, HasTold, IsComplete, IsCompleteOnImage, image_status, opening_for, status_of}
+use Rattle.script_definitions.specs.ScriptText.{script_of}
+use Rattle.core_definitions.specs.Scripts.{host_party}
+use Rattle.frang_top.specs.Top.{AreHeld, HasFile, Ends, EndsFile, EndsRun, HasRun, HasRunFor, HasTold, IsComplete, IsCompleteOnImage, image_status, status_of}
 
 -- a status of all done, or of want of memory
 abbrev HasFineCode : Status → Type 0
@@ -27,8 +28,8 @@ same_files None holds others is held = absurd (let bad : None ≡ Some holds = i
 same_files (Some told) holds others is held = held ∙ (let same : told ≡ holds = cc in same)
 
 module _ (files files_after : FilesState) (out after : State) where
-  module _ (asks : Asks) (holds : Holds) (bytes : List ℕ) (script : List Line) (at_name : holds asks.script ≡ Some bytes) (short : length bytes ≤ SCRIPT_BYTES_MAX) (good : built_script_of bytes ≡ Ok script)
-      (read : Rose files.read_faults files_after.read_faults → ⊥) (said : Rose out.say_faults after.say_faults → ⊥) where
+  module _ (asks : Asks) (holds : Holds) (bytes : List ℕ) (script : List Line) (at_name : holds asks.script ≡ Some bytes) (short : length bytes ≤ SCRIPT_BYTES_MAX) (good : script_of bytes ≡ Ok script)
+      (read : Rose files.read_faults files_after.read_faults → ⊥) (said : Rose out.say_faults after.say_faults → ⊥) (host : Rose (out.faults host_party) (after.faults host_party) → ⊥) where
     -- a file of this name has these bytes
     has_these : (P : List ℕ → Type 0) → HasFile holds asks.script P → P bytes
     has_these P f =
@@ -36,12 +37,12 @@ module _ (files files_after : FilesState) (out after : State) where
         let same : f.0 ≡ bytes = cc in
         subst P same f.2
 
-    ends_of : (outcome : Outcome) → (length bytes ≤ SCRIPT_BYTES_MAX) × EndsRun (opening_for asks) bytes out after outcome → EndsRun (opening_for asks) bytes out after outcome
+    ends_of : (outcome : Outcome) → (length bytes ≤ SCRIPT_BYTES_MAX) × EndsRun asks.segments bytes out after outcome → EndsRun asks.segments bytes out after outcome
     ends_of outcome (few, e) = e
 
     -- why the run of these bytes ended so
-    file_ends : (outcome : Outcome) → EndsFile asks holds out after outcome → EndsRun (opening_for asks) bytes out after outcome
-    file_ends outcome f = ends_of outcome (has_these (λ b. (length b ≤ SCRIPT_BYTES_MAX) × EndsRun (opening_for asks) b out after outcome) f)
+    file_ends : (outcome : Outcome) → EndsFile asks holds out after outcome → EndsRun asks.segments bytes out after outcome
+    file_ends outcome f = ends_of outcome (has_these (λ b. (length b ≤ SCRIPT_BYTES_MAX) × EndsRun asks.segments b out after outcome) f)
 
     run_fine : (outcome : Outcome) → Ends asks holds files files_after out after outcome → IsFine outcome
     run_fine ends.Done h = inl refl
@@ -51,19 +52,20 @@ module _ (files files_after : FilesState) (out after : State) where
     run_fine ends.BadWords h = absurd (file_ends ends.BadWords h)
     run_fine ends.NoMemory h = inr refl
     run_fine ends.ReadFailed h = absurd (read h.0)
-    run_fine (ends.Mute n) h = absurd (said (file_ends (ends.Mute n) h).2.rose)
+    run_fine (ends.Mute n) h = absurd (said (file_ends (ends.Mute n) h).2.0)
+    run_fine (ends.Fault sector) h = absurd (host (file_ends (ends.Fault sector) h).2.0)
     run_fine ends.TooLong h = let long : SCRIPT_BYTES_MAX < length bytes = has_these (λ b. SCRIPT_BYTES_MAX < length b) h.0 in absurd (omega arith)
     run_fine (ends.OnImage e) h = absurd (file_ends (ends.OnImage e) h)
 
   run_complete : (words : List (List ℕ)) (outcome : Outcome) (asked : Option Asked) → asked_by words ≡ asked → HasRunFor asked files files_after out after outcome → IsComplete words files files_after out after (status_of outcome)
-  run_complete words outcome None is done asks holds bytes script by told at_name short good read said = absurd (let bad : None ≡ Some (Run asks) = sym is ∙ by in cc)
-  run_complete words outcome (Some (Run own)) is done asks holds bytes script by told at_name short good read said =
+  run_complete words outcome None is done asks holds bytes script by told at_name short good read said host = absurd (let bad : None ≡ Some (Run asks) = sym is ∙ by in cc)
+  run_complete words outcome (Some (Run own)) is done asks holds bytes script by told at_name short good read said host =
       let some : Some (Run own) ≡ Some (Run asks) = sym is ∙ by in
       let same : own ≡ asks = cc in
       let run = subst (λ a. HasRun a files files_after out after outcome) same done in
       let held : run.holds ≡ holds = same_files files.holds holds run.holds told run.held in
-      run_fine asks holds bytes script at_name short good read said outcome (subst (λ h. Ends asks h files files_after out after outcome) held run.ends)
-  run_complete words outcome (Some (OnImage own)) is done asks holds bytes script by told at_name short good read said = absurd (let bad : Some (OnImage own) ≡ Some (Run asks) = sym is ∙ by in cc)
+      run_fine asks holds bytes script at_name short good read said host outcome (subst (λ h. Ends asks h files files_after out after outcome) held run.ends)
+  run_complete words outcome (Some (OnImage own)) is done asks holds bytes script by told at_name short good read said host = absurd (let bad : Some (OnImage own) ≡ Some (Run asks) = sym is ∙ by in cc)
 
   told_fine : (e : ImageEnd) → IsDoneOrShort e → IsFine (ends.OnImage e)
   told_fine e (inl done) = inl (ap (λ x. (image_status x).code) done)

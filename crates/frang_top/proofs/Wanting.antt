@@ -7,8 +7,7 @@ use Rattle.image_commands.specs.declared.end.ImageEnd.TheVariants as end
 use Rattle.image_commands.specs.Asked.{EndsAsked, LeavesFiles, OnlyWrites}
 use Rattle.image_commands.proofs.EndLaws.{others_same}
 use Rattle.frang_top.specs.declared.outcome.Outcome.TheVariants as ends
-use Rattle.script_runs.specs.Run.{NothingYet}
-use Rattle.frang_top.specs.Top.{HasRunFor, written_by}
+use Rattle.frang_top.specs.Top.{HasRunFor, NothingYet, written_by}
 use Rattle.frang_top.proofs.Asking.{want_run}
 
 image_wants : (asks : ImageAsks) (files : FilesState) (out : State) → NothingYet out.acts → EndsAsked asks files files out out end.NoMemory
@@ -27,7 +26,7 @@ leaves (Fsck image) holds = refl
 
 pub wants : (asked : Option Asked) (files : FilesState) (out : State) → NothingYet out.acts → HasRunFor asked files files out out ends.NoMemory
 wants None files out nothing = (tt, nothing)
-wants (Some (Run asks)) files out nothing = want_run asks files files out out nothing
+wants (Some (Run asks)) files out nothing = want_run asks files files out nothing
 wants (Some (OnImage asks)) files out nothing = record {
   ended = end.NoMemory;
   status_is = refl;

@@ -39,7 +39,7 @@ fault_words fault.AfterHalt = codes "a command after halt"
 
 abbrev pub words_for : Option LineFault → List ℕ
 words_for (Some f) = fault_words f
-words_for None = codes "a form that isn't built yet"
+words_for None = codes "an unknown fault"
 
 -- the words for the kind of a script's first fault, by its number
 abbrev pub kind_words : ℕ → List ℕ
@@ -61,4 +61,5 @@ sentence s =
     else (if s.code == 6 then codes "image: " ++ fault_sentence s.line s.at s.sector
     else (if s.code == 7 then codes "the image can't be written"
     else (if s.code == 8 then codes "the " ++ (file_words s.line ++ (codes " has more than " ++ (decimal s.at ++ codes " bytes")))
-    else codes "an unknown status"))))))))
+    else (if s.code == 9 then codes "the disk fails at sector " ++ decimal s.at
+    else codes "an unknown status")))))))))

@@ -12,6 +12,7 @@ use std::alloc::Global;
 use std::env;
 use std::process::ExitCode;
 use std::rt::Runtime;
+use std::sync::Wait;
 use std::thread::Threads;
 
 fn exit_code(status: &Status) -> ExitCode
@@ -51,7 +52,7 @@ fn given_words<R: Runtime>(alloc: Global, rt: &R) -> anyhow::Result<Vec<String>>
 }
 
 // How the call with these words ends over the real files and the real outside.
-fn status_of<R: Runtime + Threads + Send + Sync>(
+fn status_of<R: Runtime + Threads + Wait + Send + Sync>(
     alloc: Global,
     rt: &R,
     words: &[String],
@@ -65,7 +66,7 @@ fn status_of<R: Runtime + Threads + Send + Sync>(
 /// Does what the words after the program's name ask, and gives the status with which the process is to end. Where it isn't 0, its line
 /// of numbers stands on standard error, and below it what it means in words. An error comes where the arguments can't be had, or where
 /// standard error takes no line.
-pub fn run_program<R: Runtime + Threads + Send + Sync>(
+pub fn run_program<R: Runtime + Threads + Wait + Send + Sync>(
     alloc: Global,
     rt: &R,
 ) -> anyhow::Result<ExitCode> {

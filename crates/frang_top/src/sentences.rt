@@ -13,7 +13,7 @@ use std::alloc::Global;
 
 /// The commands of the program, a line each: the words, and what they ask.
 pub const COMMANDS: [&str; 5] = [
-    "run SCRIPT [--segments S]  answers a script on a fresh disk of S segments, 1 to 64 (else 16)",
+    "run SCRIPT [--segments S] [--order N]  runs a script on a fresh disk of S segments, 1 to 64 (else 16), on threads, or in the order of events that N picks",
     "recover IMAGE [--save F]  says what each log keeps and the tree of the replayed disk, saves it in F",
     "tree IMAGE  says the tree of an image's replayed disk",
     "log IMAGE SERVER  says the records of a log, 0 to 255",
@@ -76,7 +76,7 @@ fn kind_words(alloc: Global, kind: u64) -> Result<String, NoMemory>
 {
     match fault_with(kind) {
         Some(fault) => fault_words(alloc, fault),
-        None => Ok(format!(in alloc; "a form that isn't built yet")?),
+        None => Ok(format!(in alloc; "an unknown fault")?),
     }
 }
 
@@ -114,6 +114,7 @@ impl Status {
             }
             7 => format!(in alloc; "the image can't be written")?,
             8 => format!(in alloc; "the {file} has more than {at} bytes")?,
+            9 => format!(in alloc; "the disk fails at sector {at}")?,
             _ => format!(in alloc; "an unknown status")?,
         };
         Ok(text)

@@ -1,10 +1,11 @@
 // Images by their bytes, and what calls of the program on them tell.
-ghost use Rattle.script_runs.specs.Run.{NothingYet};
+ghost use Rattle.frang_top.specs.Top.{NothingYet};
 
 use frang_base::NoMemory;
 use frang_outside::{Act, FileFault, Files, MemFiles, MemOutside, NoGate, Outside};
 use frang_top::{Status, frang};
 use std::alloc::{AllocError, Global};
+use std::sync::Wait;
 use std::thread::Threads;
 use test_tables::lay;
 
@@ -90,7 +91,7 @@ pub fn words_of(alloc: Global, line: &str) -> Result<Vec<String>, AllocError> {
 }
 
 /// How a call with these words ends, and the outside that it leaves. Nothing was said there before.
-pub fn call<R: Threads + Sync, F: Files, O: Outside + Send>(
+pub fn call<R: Threads + Wait + Sync, F: Files, O: Outside + Send>(
     rt: &R,
     alloc: Global,
     words: &[String],
@@ -103,7 +104,7 @@ pub fn call<R: Threads + Sync, F: Files, O: Outside + Send>(
 }
 
 /// What a call with these words tells over these files.
-pub fn tell_over<R: Threads + Sync, F: Files>(
+pub fn tell_over<R: Threads + Wait + Sync, F: Files>(
     rt: &R,
     alloc: Global,
     line: &str,
@@ -113,7 +114,7 @@ pub fn tell_over<R: Threads + Sync, F: Files>(
     tell_words(rt, alloc, &words, files)
 }
 
-fn tell_words<R: Threads + Sync, F: Files>(
+fn tell_words<R: Threads + Wait + Sync, F: Files>(
     rt: &R,
     alloc: Global,
     words: &[String],
@@ -139,7 +140,7 @@ pub fn is_so(told: &Told, ending: Ending, text: &str) -> bool {
         && told.text.as_slice() == text.as_bytes()
 }
 
-fn is_row<R: Threads + Sync, F: Files>(
+fn is_row<R: Threads + Wait + Sync, F: Files>(
     rt: &R,
     alloc: Global,
     files: &mut F,
@@ -150,7 +151,7 @@ fn is_row<R: Threads + Sync, F: Files>(
 }
 
 /// The first row, from 1 on, whose call over these files tells otherwise; 0 where there is none.
-pub fn first_other<R: Threads + Sync, F: Files>(
+pub fn first_other<R: Threads + Wait + Sync, F: Files>(
     rt: &R,
     alloc: Global,
     files: &mut F,

@@ -2,6 +2,7 @@
 use crate::builders::{files_of, tell_over};
 use frang_base::NoMemory;
 use std::alloc::Global;
+use std::sync::Wait;
 use std::test::Fail;
 use std::thread::Threads;
 
@@ -109,7 +110,7 @@ fn chain_lines(alloc: Global) -> Result<Vec<u8>, NoMemory> {
 }
 
 // Whether a command says the lines of the chain.
-fn is_said<R: Threads + Sync>(rt: &R, alloc: Global, words: &str) -> Result<bool, NoMemory> {
+fn is_said<R: Threads + Wait + Sync>(rt: &R, alloc: Global, words: &str) -> Result<bool, NoMemory> {
     let mut files = files_of(alloc, &chain(alloc)?)?;
     let told = tell_over(rt, alloc, words, &mut files)?;
     let lines = chain_lines(alloc)?;

@@ -4,6 +4,7 @@ use frang_base::NoMemory;
 use frang_outside::MemFiles;
 use frang_top::Status;
 use std::alloc::Global;
+use std::sync::Wait;
 use std::test::Fail;
 use std::thread::Threads;
 
@@ -144,7 +145,7 @@ fn fresh_files(alloc: Global, len: usize, later: &str) -> Result<MemFiles, NoMem
 
 // A command refuses a damage as what it is.
 fn is_refused(
-    rt: &(impl Threads + Sync),
+    rt: &(impl Threads + Wait + Sync),
     alloc: Global,
     words: &str,
     damage: &Damage,
@@ -163,7 +164,7 @@ fn is_status(alloc: Global, status: &Status, damage: &Damage) -> Result<bool, No
 
 // The first of these damages, from 1 on, that a command refuses otherwise; 0 where there is none.
 fn first_not_refused(
-    rt: &(impl Threads + Sync),
+    rt: &(impl Threads + Wait + Sync),
     alloc: Global,
     words: &str,
     damages: &[Damage],
@@ -178,7 +179,7 @@ fn first_not_refused(
 
 // How many of these commands refuse these damages as what they are.
 fn refusing(
-    rt: &(impl Threads + Sync),
+    rt: &(impl Threads + Wait + Sync),
     alloc: Global,
     commands: &[&str],
     damages: &[Damage],
@@ -222,7 +223,7 @@ static TREELESS: [Row; 2] = [("log img 0", DONE, "! end\n"), ("fsck img", DONE, 
 
 // The first of these rows, from 1 on, that is told otherwise of the fresh image with these laid over it; 0 where there is none.
 fn first_other_of(
-    rt: &(impl Threads + Sync),
+    rt: &(impl Threads + Wait + Sync),
     alloc: Global,
     later: &str,
     rows: &[Row],

@@ -3,6 +3,7 @@ use disk_definitions::Disk;
 use frang_base::{NoMemory, Sector};
 use fsck_report::{Fault, Report, check};
 use std::alloc::Global;
+use std::sync::Wait;
 use std::thread::Threads;
 use test_tables::{columns, has_rows, is_row, lay_on, number, sector, split};
 
@@ -24,7 +25,7 @@ s1 0:01 8:020000000101'h
 
 /// The report of the disk of these pieces, the later ones laid over the others, where it has parameters.
 pub fn report_of(
-    rt: &(impl Threads + Sync),
+    rt: &(impl Threads + Wait + Sync),
     alloc: Global,
     pieces: &str,
     later: &str,
@@ -40,7 +41,7 @@ pub fn report_of(
 
 /// That of the small disk with these laid over it.
 pub fn small_report(
-    rt: &(impl Threads + Sync),
+    rt: &(impl Threads + Wait + Sync),
     alloc: Global,
     later: &str,
 ) -> Result<Option<Report>, NoMemory> {
@@ -78,7 +79,11 @@ fn is_told(alloc: Global, report: &Report, counts: &str, faults: &str) -> Result
     Ok(found.as_str() == counts && are_faults(&report.faults, faults) && stands)
 }
 
-fn is_row_told(rt: &(impl Threads + Sync), alloc: Global, row: &str) -> Result<bool, NoMemory> {
+fn is_row_told(
+    rt: &(impl Threads + Wait + Sync),
+    alloc: Global,
+    row: &str,
+) -> Result<bool, NoMemory> {
     let (later, counts, faults) = columns(row);
     match small_report(rt, alloc, later)? {
         Some(report) => is_told(alloc, &report, counts, faults),
@@ -89,7 +94,7 @@ fn is_row_told(rt: &(impl Threads + Sync), alloc: Global, row: &str) -> Result<b
 /// The first row that is told otherwise; an empty text where there is none. A row has what is laid over the small disk, which has 20 blocks, 2
 /// directories, 2 files, a large block and a link; how many of these are then reached; and the faults.
 pub fn first_other<'a>(
-    rt: &(impl Threads + Sync),
+    rt: &(impl Threads + Wait + Sync),
     alloc: Global,
     rows: &'a str,
 ) -> Result<&'a str, NoMemory> {

@@ -7,6 +7,7 @@ use frang_base::NoMemory;
 use frang_outside::{FaultyOutside, Files, MemFiles};
 use frang_top::Status;
 use std::alloc::Global;
+use std::sync::Wait;
 use std::test::Fail;
 use std::thread::Threads;
 use test_tables::lay;
@@ -136,7 +137,7 @@ static SAVED: [Row; 3] = [
 ];
 
 // The length of what is saved, where the rows are told so.
-fn saved_length(rt: &(impl Threads + Sync), alloc: Global) -> Result<usize, NoMemory> {
+fn saved_length(rt: &(impl Threads + Wait + Sync), alloc: Global) -> Result<usize, NoMemory> {
     let mut files = logs_files(alloc, "")?;
     if first_other(rt, alloc, &mut files, &SAVED)? != 0 {
         return Ok(0);
@@ -162,7 +163,7 @@ const ODD: Status = Status {
 };
 
 // A log isn't told over the damage.
-fn is_odd(rt: &(impl Threads + Sync), alloc: Global) -> Result<bool, NoMemory> {
+fn is_odd(rt: &(impl Threads + Wait + Sync), alloc: Global) -> Result<bool, NoMemory> {
     let mut files = logs_files(alloc, ODD_SLOT)?;
     let told = tell_over(rt, alloc, "log img 1", &mut files)?;
     Ok(told.status == ODD && told.text.is_empty())
@@ -180,7 +181,7 @@ fn a_damaged_log_is_told_by_its_sector(rt: HostRuntime) -> Result<(), Fail> {
 
 // What is told with these words over these files where the outside fails at the third line.
 fn tell_failing(
-    rt: &(impl Threads + Sync),
+    rt: &(impl Threads + Wait + Sync),
     alloc: Global,
     words: &[String],
     files: &mut MemFiles,
@@ -192,7 +193,7 @@ fn tell_failing(
 }
 
 // So of the tree.
-fn told_in_part(rt: &(impl Threads + Sync), alloc: Global) -> Result<Told, NoMemory> {
+fn told_in_part(rt: &(impl Threads + Wait + Sync), alloc: Global) -> Result<Told, NoMemory> {
     let mut files = logs_files(alloc, "")?;
     let words = words_of(alloc, "tree img")?;
     tell_failing(rt, alloc, &words, &mut files)
@@ -210,7 +211,7 @@ static UNSAVED: [Row; 1] = [("recover img --save new", (7, 0, 0), RECOVERED)];
 
 // Over these files the rows are told so, with so many writes that fail.
 fn ends(
-    rt: &(impl Threads + Sync),
+    rt: &(impl Threads + Wait + Sync),
     alloc: Global,
     files: &mut FixedFiles,
     rows: &[Row],

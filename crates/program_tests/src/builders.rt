@@ -1,11 +1,12 @@
 // Calls of the program over files and an outside in memory, and what they say.
-ghost use Rattle.script_runs.specs.Run.{NothingYet};
+ghost use Rattle.frang_top.specs.Top.{NothingYet};
 
 use frang_base::NoMemory;
 use frang_outside::{Act, MemFiles, MemOutside, NoGate, Outside};
 use frang_top::{Status, frang};
 use std::alloc::{AllocError, Global};
 use std::process::Abort;
+use std::sync::Wait;
 use std::test::Fail;
 use std::thread::Threads;
 
@@ -44,7 +45,7 @@ pub struct Told {
 }
 
 // How a call with these words ends, and the outside that it leaves. Nothing was said there before.
-pub fn call<R: Threads + Sync, O: Outside + Send>(
+pub fn call<R: Threads + Wait + Sync, O: Outside + Send>(
     rt: &R,
     alloc: Global,
     words: &[String],
@@ -58,7 +59,7 @@ pub fn call<R: Threads + Sync, O: Outside + Send>(
 
 // What a call with these words tells where the file `s` holds this script.
 pub fn tell(
-    rt: &(impl Threads + Sync),
+    rt: &(impl Threads + Wait + Sync),
     alloc: Global,
     words: &[&str],
     script: &[u8],
@@ -69,7 +70,7 @@ pub fn tell(
 
 // The same of words that are owned.
 pub fn tell_words(
-    rt: &(impl Threads + Sync),
+    rt: &(impl Threads + Wait + Sync),
     alloc: Global,
     words: &[String],
     script: &[u8],
@@ -80,7 +81,7 @@ pub fn tell_words(
 }
 
 fn tell_over(
-    rt: &(impl Threads + Sync),
+    rt: &(impl Threads + Wait + Sync),
     alloc: Global,
     words: &[String],
     files: &mut MemFiles,
@@ -103,7 +104,7 @@ pub fn told_by(alloc: Global, status: Status, acts: &[Act]) -> Result<Told, NoMe
 pub type Run = (&'static str, &'static str);
 
 pub fn expect_runs(
-    rt: &(impl Abort + Threads + Sync),
+    rt: &(impl Abort + Threads + Wait + Sync),
     alloc: Global,
     runs: &[Run],
 ) -> Result<(), Fail> {

@@ -4,6 +4,7 @@ use frang_base::NoMemory;
 use std::alloc::Global;
 use std::fmt::Write;
 use std::process::Abort;
+use std::sync::Wait;
 use std::test::Fail;
 use std::thread::Threads;
 
@@ -350,7 +351,7 @@ fn split_table(alloc: Global, table: &str) -> Result<(String, String), NoMemory>
 
 // The answers begin what is said, before the lines of the tree.
 fn expect_table(
-    rt: &(impl Abort + Threads + Sync),
+    rt: &(impl Abort + Threads + Wait + Sync),
     alloc: Global,
     words: &[&str],
     table: &str,
@@ -365,7 +366,7 @@ fn expect_table(
 
 // What is said of the script begins so, and goes on.
 fn begins_so(
-    rt: &(impl Threads + Sync),
+    rt: &(impl Threads + Wait + Sync),
     alloc: Global,
     words: &[&str],
     script: &str,

@@ -6,10 +6,11 @@ use frang_outside::{FaultyOutside, MemFiles};
 use std::alloc::Global;
 use std::fmt::Write;
 use std::process::Abort;
+use std::sync::Wait;
 use std::test::Fail;
 use std::thread::Threads;
 
-static RUNS: [Run; 7] = [
+static RUNS: [Run; 12] = [
     (
         "0 mount\n0 create /a\n0 sync\n",
         "1 0 mounted\n2 0 ok\n3 0 ok\n= / dir 1\n= /a file 0 1\n! end\n",
@@ -20,6 +21,31 @@ static RUNS: [Run; 7] = [
         "1 0 down\n2 0 mounted\n3 0 already\n4 0 ok\n5 0 exist\n6 0 ok\n= / dir 2\n= /a file 0 1\n= /b file 0 1\n! end\n",
     ),
     ("0 sync", "1 0 down\n= / dir 0\n! end\n"),
+    // a server sees what another made, once it was asked
+    (
+        "0 mount\n0 create /a\nbarrier\n1 mount\n1 create /a\n",
+        "1 0 mounted\n2 0 ok\n3 - ok\n4 1 mounted\n5 1 exist\n= / dir 1\n= /a file 0 1\n! end\n",
+    ),
+    // what wasn't written is lost with its server, whose log another reads
+    (
+        "0 mount\n0 create /a\n0 crash\nbarrier\n1 mount\n1 list /\n",
+        "1 0 mounted\n2 0 ok\n! dead 0\n3 0 ok\n4 - ok\n5 1 mounted\n! recovering 0 by 1\n! recovered 0 keeps 0.0\n6 1 names\n= / dir 0\n! end\n",
+    ),
+    // the host reads it where nobody is mounted
+    (
+        "0 mount\n0 create /a\n0 sync\n0 create /b\n0 crash\n",
+        "1 0 mounted\n2 0 ok\n3 0 ok\n4 0 ok\n! dead 0\n5 0 ok\n! recovering 0 by -\n! recovered 0 keeps 1.2\n= / dir 1\n= /a file 0 1\n! end\n",
+    ),
+    // what another has seen was written before
+    (
+        "0 mount\n0 create /a\nbarrier\n1 mount\n1 stat /a\nbarrier\n0 crash\n",
+        "1 0 mounted\n2 0 ok\n3 - ok\n4 1 mounted\n5 1 file 0 1\n6 - ok\n! dead 0\n7 0 ok\n! recovering 0 by 1\n! recovered 0 keeps 1.2\n= / dir 1\n= /a file 0 1\n! end\n",
+    ),
+    // a stalled server loses its lease, and owes an unmount
+    (
+        "0 mount\n0 create /a\n0 stall\ntick 40\n0 stat /a\n0 unmount\n0 mount\n0 stat /a\n",
+        "1 0 mounted\n2 0 ok\n3 0 ok\n! dead 0\n! recovering 0 by -\n! recovered 0 keeps 0.0\n4 - ok\n5 0 expired\n6 0 ok\n7 0 mounted\n8 0 noent\n= / dir 0\n! end\n",
+    ),
     (
         "# names\r\n\r\n  0\tmount \r\nbarrier\n0 mkdir /d\n\n0 symlink /d/l t\nbarrier\n",
         "3 0 mounted\n4 - ok\n5 0 ok\n7 0 ok\n8 - ok\n= / dir 1\n= /d dir 1\n= /d/l link 1\n! end\n",
@@ -69,7 +95,8 @@ fn has_line(text: &[u8], place: usize, wanted: &str) -> bool {
 fn a_directory_has_at_most_896_entries(rt: HostRuntime) -> Result<(), Fail> {
     let script = creates(rt.alloc(), 897)?;
     let told = tell(&rt, rt.alloc(), &["run", "s"], script.as_bytes())?;
-    assert!(rt; told.status == DONE && told.acts == 1 + 897 + 897 + 1);
+    let lines = told.text.iter().filter(|byte| **byte == b'\n').count();
+    assert!(rt; told.status == DONE && lines == 1 + 897 + 897 + 1);
     for (place, wanted) in &LINES {
         assert!(rt; has_line(&told.text, *place, wanted), "line {place}");
     }
@@ -87,7 +114,7 @@ fn says_nothing(told: &Told, wanted: (u8, u32, u64)) -> bool {
 
 // Such a call ends so and says nothing.
 fn expect_status(
-    rt: &(impl Abort + Threads + Sync),
+    rt: &(impl Abort + Threads + Wait + Sync),
     alloc: Global,
     words: &[&str],
     file: &[u8],
@@ -113,12 +140,16 @@ fn parted(alloc: Global, line: &str) -> Result<Vec<String>, NoMemory> {
 }
 
 // What a call with the words of this line tells where the script is empty.
-fn tell_line(rt: &(impl Threads + Sync), alloc: Global, line: &str) -> Result<Told, NoMemory> {
+fn tell_line(
+    rt: &(impl Threads + Wait + Sync),
+    alloc: Global,
+    line: &str,
+) -> Result<Told, NoMemory> {
     let words = parted(alloc, line)?;
     tell_words(rt, alloc, &words, &[])
 }
 
-static REFUSED: [&str; 16] = [
+static REFUSED: [&str; 23] = [
     "",
     "run",
     "run -s",
@@ -135,6 +166,13 @@ static REFUSED: [&str; 16] = [
     "run s --segments 01",
     "run s --segments +1",
     "run s --segments x",
+    "run s --order",
+    "run s --order -1",
+    "run s --order +1",
+    "run s --order 01",
+    "run s --order 18446744073709551616",
+    "run s --order 1 --order=1",
+    "tree s --order 1",
 ];
 
 #[test]
@@ -162,7 +200,13 @@ fn a_number_is_a_whole_word(rt: HostRuntime) -> Result<(), Fail> {
     expect_status(&rt, alloc, &["run", "s", "--segments", "16 "], &[], refused)
 }
 
-static SEGMENTS: [&str; 3] = ["run --segments 1 s", "run -- s", "run s --segments=64"];
+static SEGMENTS: [&str; 5] = [
+    "run --segments 1 s",
+    "run -- s",
+    "run s --segments=64",
+    "run s --order 0",
+    "run --order=18446744073709551615 s --segments 1",
+];
 
 #[test]
 fn options_have_their_form(rt: HostRuntime) -> Result<(), Fail> {
@@ -174,16 +218,11 @@ fn options_have_their_form(rt: HostRuntime) -> Result<(), Fail> {
 }
 
 // A script, the line at fault and the kind of its fault.
-static BAD: [(&str, u32, u64); 11] = [
+static BAD: [(&str, u32, u64); 6] = [
     ("0 mount\n0 truncate /a x1\n", 2, 5),
     ("0 mount\n0 create a\n", 2, 6),
     ("0 sync\n0 sink\n", 2, 2),
-    ("1 mount\n", 1, 12),
-    ("0 mount\n\n0 crash\n0 stall\n", 3, 12),
-    ("0 crash 3\n", 1, 12),
-    ("0 cut 1\n", 1, 12),
-    ("0 stall\n", 1, 12),
-    ("barrier\ntick 1\n1 sync\n", 3, 12),
+    ("1 mount\n16 sync\n", 2, 7),
     ("halt\nbarrier\n", 2, 11),
     ("0 crash\n0 create a\n", 2, 6),
 ];
@@ -210,7 +249,7 @@ static UNSAID: [(u64, u64, &str); 2] = [
 
 // What a call tells where this say fails.
 fn call_failing(
-    rt: &(impl Threads + Sync),
+    rt: &(impl Threads + Wait + Sync),
     alloc: Global,
     words: &[String],
     files: &mut MemFiles,
@@ -223,7 +262,11 @@ fn call_failing(
 }
 
 // What a run tells of which a say fails.
-fn tell_failing(rt: &(impl Threads + Sync), alloc: Global, failing: u64) -> Result<Told, NoMemory> {
+fn tell_failing(
+    rt: &(impl Threads + Wait + Sync),
+    alloc: Global,
+    failing: u64,
+) -> Result<Told, NoMemory> {
     let mut files = MemFiles::new(alloc);
     files.put_file("s", "0 mount\n0 create /a\n0 sync\n".as_bytes())?;
     let words = words_of(alloc, &["run", "s"])?;
@@ -232,7 +275,7 @@ fn tell_failing(rt: &(impl Threads + Sync), alloc: Global, failing: u64) -> Resu
 
 // A run ends so where a say fails.
 fn ends_unsaid(
-    rt: &(impl Threads + Sync),
+    rt: &(impl Threads + Wait + Sync),
     alloc: Global,
     failing: u64,
     at: u64,
@@ -257,5 +300,50 @@ fn a_say_that_fails_ends_the_run(rt: HostRuntime) -> Result<(), Fail> {
             "say {failing}"
         );
     }
+    Ok(())
+}
+
+// Which puts fail, and how a run ends then: its code and its sector.
+fn tell_putless(
+    rt: &(impl Threads + Wait + Sync),
+    alloc: Global,
+    failing: u64,
+) -> Result<Told, NoMemory> {
+    let mut files = MemFiles::new(alloc);
+    files.put_file("s", "0 mount\n0 create /a\n0 sync\n".as_bytes())?;
+    let words = words_of(alloc, &["run", "s"])?;
+    let puts = vec![in alloc; failing]?;
+    let out = FaultyOutside::new(alloc, Vec::new(alloc), puts, Vec::new(alloc));
+    let (status, out) = call(rt, alloc, &words, &mut files, out);
+    told_by(alloc, status, out.acts())
+}
+
+// Which put of the opening fails, and its sector.
+static UNOPENED: [(u64, u64); 3] = [(1, 10_737_418_240), (2, 4_294_967_296), (3, 0)];
+
+fn is_unopened(told: &Told, sector: u64) -> bool {
+    let status = told.status;
+    status.code == 9 && status.line == 0 && status.at == sector && told.text.is_empty()
+}
+
+#[test]
+fn a_put_that_fails_in_the_opening_ends_the_run(rt: HostRuntime) -> Result<(), Fail> {
+    for (failing, sector) in &UNOPENED {
+        let told = tell_putless(&rt, rt.alloc(), *failing)?;
+        assert!(rt; is_unopened(&told, *sector), "put {failing}");
+    }
+    Ok(())
+}
+
+// A put of a server that fails ends that server's mount, and the run goes on.
+#[test]
+fn a_put_that_fails_ends_its_mount(rt: HostRuntime) -> Result<(), Fail> {
+    let told = tell_putless(&rt, rt.alloc(), 4)?;
+    assert!(rt;
+        says(
+            &told,
+            "1 0 mounted\n! dead 0\n2 0 io\n3 0 down\n! recovering 0 by -\n! recovered 0 keeps 0.0\n= / dir 0\n! end\n"
+        )
+    );
     Ok(())
 }

@@ -3,7 +3,7 @@ use frang_top::Status;
 use std::test::Fail;
 
 // A status by its code, its line and its number, and what its sentence is.
-static ROWS: [(u8, u32, u64, &str); 23] = [
+static ROWS: [(u8, u32, u64, &str); 24] = [
     (0, 0, 0, "all was done"),
     (
         1,
@@ -31,7 +31,7 @@ static ROWS: [(u8, u32, u64, &str); 23] = [
         "line 9: a text of more than 512 bytes, or a target of more than 384",
     ),
     (1, 10, 11, "line 10: a command after halt"),
-    (1, 11, 12, "line 11: a form that isn't built yet"),
+    (1, 11, 12, "line 11: an unknown fault"),
     (2, 0, 0, "the words are no command; the commands are"),
     (3, 0, 0, "want of memory"),
     (4, 0, 0, "the script can't be read"),
@@ -41,7 +41,8 @@ static ROWS: [(u8, u32, u64, &str); 23] = [
     (7, 0, 0, "the image can't be written"),
     (8, 0, 1_048_576, "the script has more than 1048576 bytes"),
     (8, 1, 536_870_912, "the image has more than 536870912 bytes"),
-    (9, 0, 0, "an unknown status"),
+    (9, 0, 4_294_967_296, "the disk fails at sector 4294967296"),
+    (10, 0, 0, "an unknown status"),
 ];
 
 #[test]

@@ -12,7 +12,7 @@ use Rattle.frang_top.proofs.top.answer.Goals as goal
 pub returns-in-Ok-Some-clause-done : goal.returns-in-Ok-Some-clause-done
 returns-in-Ok-Some-clause-done g c =
     let some : c.in-Ok-Some.field-0 ≡ Some c.in-Ok-Some.command = search rules in
-    subst (λ asked. HasRunFor asked (g.F.Files.state c.args.files.now) (g.F.Files.state c.do_asked.new.files) (g.O.Outside.state c.args.out.now) (g.O.Outside.state c.do_asked.new.out) c.do_asked.result)
+    subst (λ asked. HasRunFor asked (g.F.Files.state c.args.files.now) (g.F.Files.state c.do_asked.new.files) (g.O.Outside.state c.args.out) (g.O.Outside.state c.do_asked.result.1) c.do_asked.result.0)
     (ap (option_map asked_of) (sym some) ∙ c.in-Ok-Some.ensures.is) c.do_asked.ensures.done
 
 pub returns-in-Ok-Some-clause-files : goal.returns-in-Ok-Some-clause-files
@@ -23,14 +23,14 @@ returns-in-Ok-Some-clause-files g c =
 pub returns-in-Ok-None-clause-done : goal.returns-in-Ok-None-clause-done
 returns-in-Ok-None-clause-done g c =
     let none : c.in-Ok-None.field-0 ≡ None = search rules in
-    subst (λ asked. HasRunFor asked (g.F.Files.state c.args.files.now) (g.F.Files.state c.args.files.now) (g.O.Outside.state c.args.out.now) (g.O.Outside.state c.args.out.now) ends.BadWords)
+    subst (λ asked. HasRunFor asked (g.F.Files.state c.args.files.now) (g.F.Files.state c.args.files.now) (g.O.Outside.state c.args.out) (g.O.Outside.state c.args.out) ends.BadWords)
     (ap (option_map asked_of) (sym none) ∙ c.in-Ok-None.ensures.is) (tt, c.requires.fresh)
 
 pub returns-in-Ok-None-clause-files : goal.returns-in-Ok-None-clause-files
 returns-in-Ok-None-clause-files g c = nothing_written (asked_by (map string_bytes c.args.words.now)) (g.F.Files.state c.args.files.now).holds
 
 pub returns-in-Err-clause-done : goal.returns-in-Err-clause-done
-returns-in-Err-clause-done g c = wants (asked_by (map string_bytes c.args.words.now)) (g.F.Files.state c.args.files.now) (g.O.Outside.state c.args.out.now) c.requires.fresh
+returns-in-Err-clause-done g c = wants (asked_by (map string_bytes c.args.words.now)) (g.F.Files.state c.args.files.now) (g.O.Outside.state c.args.out) c.requires.fresh
 
 pub returns-in-Err-clause-files : goal.returns-in-Err-clause-files
 returns-in-Err-clause-files g c = nothing_written (asked_by (map string_bytes c.args.words.now)) (g.F.Files.state c.args.files.now).holds

@@ -7,10 +7,10 @@ use Rattle.frang_top.proofs.top.frang.Goals as goal
 
 pub returns-clause-complete : goal.returns-clause-complete
 returns-clause-complete g c =
-    subst (IsComplete (map string_bytes c.args.words.now) (g.F.Files.state c.args.files.now) (g.F.Files.state c.answer-outcome.new.files) (g.O.Outside.state c.args.out) (g.O.Outside.state c.answer-outcome.new.out)) (sym c.status_of.ensures)
-    (complete (g.F.Files.state c.args.files.now) (g.F.Files.state c.answer-outcome.new.files) (g.O.Outside.state c.args.out) (g.O.Outside.state c.answer-outcome.new.out) (map string_bytes c.args.words.now) c.answer-outcome.result c.answer-outcome.ensures.done)
+    subst (IsComplete (map string_bytes c.args.words.now) (g.F.Files.state c.args.files.now) (g.F.Files.state c.answer-outcome.new.files) (g.O.Outside.state c.args.out) (g.O.Outside.state c.answer-outcome.result.1)) (sym c.status_of.ensures)
+    (complete (g.F.Files.state c.args.files.now) (g.F.Files.state c.answer-outcome.new.files) (g.O.Outside.state c.args.out) (g.O.Outside.state c.answer-outcome.result.1) (map string_bytes c.args.words.now) c.answer-outcome.result.0 c.answer-outcome.ensures.done)
 
 pub returns-clause-whole : goal.returns-clause-whole
 returns-clause-whole g c =
-    subst (IsCompleteOnImage (map string_bytes c.args.words.now) (g.F.Files.state c.args.files.now) (g.F.Files.state c.answer-outcome.new.files) (g.O.Outside.state c.args.out) (g.O.Outside.state c.answer-outcome.new.out)) (sym c.status_of.ensures)
-    (complete_on_image (g.F.Files.state c.args.files.now) (g.F.Files.state c.answer-outcome.new.files) (g.O.Outside.state c.args.out) (g.O.Outside.state c.answer-outcome.new.out) (map string_bytes c.args.words.now) c.answer-outcome.result c.answer-outcome.ensures.done)
+    subst (IsCompleteOnImage (map string_bytes c.args.words.now) (g.F.Files.state c.args.files.now) (g.F.Files.state c.answer-outcome.new.files) (g.O.Outside.state c.args.out) (g.O.Outside.state c.answer-outcome.result.1)) (sym c.status_of.ensures)
+    (complete_on_image (g.F.Files.state c.args.files.now) (g.F.Files.state c.answer-outcome.new.files) (g.O.Outside.state c.args.out) (g.O.Outside.state c.answer-outcome.result.1) (map string_bytes c.args.words.now) c.answer-outcome.result.0 c.answer-outcome.ensures.done)

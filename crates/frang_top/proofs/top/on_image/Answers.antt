@@ -4,8 +4,8 @@ use Rattle.frang_top.proofs.top.on_image.Goals as goal
 
 pub returns-clause-done : goal.returns-clause-done
 returns-clause-done g c = record {
-  ended = c.do_command.result;
+  ended = c.do_command-ended.result;
   status_is = refl;
-  cause = c.do_command.ensures.ends;
-  leaves = c.do_command.ensures.files;
+  cause = c.do_command-ended.ensures.ends;
+  leaves = c.do_command-ended.ensures.files;
 }

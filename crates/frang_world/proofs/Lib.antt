@@ -1,0 +1,9 @@
+mod Aside
+mod Stepping
+mod Entering
+mod Arriving
+mod TreeSteps
+mod Keeping
+mod Getting
+mod Fitting
+mod Drawing

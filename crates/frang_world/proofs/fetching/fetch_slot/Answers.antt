@@ -1,0 +1,24 @@
+-- The slot is read for the mount under way; a get that failed is kept with it, since the server is off.
+use Rattle.std.proofs.Common.{sym, ap, ◌∙◌}
+use Rattle.core_definitions.specs.Effects.{after}
+use Rattle.core_definitions.specs.Events as core
+use Rattle.hall_runs.specs.Asking.{heard_of}
+use Rattle.hall_runs.specs.declared.event.Heard.{Heard as Told}
+use Rattle.world_state.specs.States.{core_at}
+use Rattle.frang_world.proofs.Getting.{reads_slot, refuses}
+use Rattle.frang_world.proofs.fetching.fetch_slot.Goals as goal
+
+pub returns-in-Got : goal.returns-in-Got
+returns-in-Got c =
+    c.slot_read.ensures ∙ reads_slot (core_at c.args.world.now) c.args.a.0 c.args.sector.0 c.in-Got.block c.requires.off
+    ∙ ap (λ (h : Told). after (core_at c.args.world.now) (core.Fetch c.args.a.0 c.args.sector.0) (heard_of h)) (sym c.in-Got.is)
+
+pub returns-in-GetFailed : goal.returns-in-GetFailed
+returns-in-GetFailed c =
+    c.get_refused.ensures ∙ refuses (core_at c.args.world.now) c.args.a.0 c.requires.off
+    ∙ ap (λ (h : Told). after (core_at c.args.world.now) (core.Fetch c.args.a.0 c.args.sector.0) (heard_of h)) (sym c.in-GetFailed.is)
+
+pub returns-in-Nothing : goal.returns-in-Nothing
+returns-in-Nothing c =
+    c.get_refused-in-Nothing.ensures ∙ refuses (core_at c.args.world.now) c.args.a.0 c.requires.off
+    ∙ ap (λ (h : Told). after (core_at c.args.world.now) (core.Fetch c.args.a.0 c.args.sector.0) (heard_of h)) (sym c.in-Nothing.is)

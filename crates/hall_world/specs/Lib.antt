@@ -1,0 +1,1 @@
+pub use Rattle.frang_world.specs.States

@@ -1,0 +1,13 @@
+-- Once the tree is read, its next line is made.
+use Rattle.std.proofs.Common.{◌≡◌, is_some, not, sym, ap, ◌∙◌, rules}
+use Rattle.std.specs.Option.{option_copied}
+use Rattle.world_list.proofs.TreeEnds.{made_so, ended_then}
+use Rattle.world_list.proofs.ends.may_end.Goals as goal
+
+pub line-requires : goal.line-requires
+line-requires c = (made_so c.args.world.now c.args.tree.now c.requires (sym c.is_tree_read.ensures ∙ c.if-is_tree_read.true)).made
+
+pub returns-then-is_tree_read : goal.returns-then-is_tree_read
+returns-then-is_tree_read c =
+    let copied : c.is_none.result ≡ not (is_some (option_copied c.line.result)) = search rules in
+    copied ∙ ap (λ o. not (is_some o)) c.line.ensures ∙ ended_then c.args.world.now c.args.tree.now c.requires (sym c.is_tree_read.ensures ∙ c.if-is_tree_read.true)

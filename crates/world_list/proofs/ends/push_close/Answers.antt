@@ -1,0 +1,7 @@
+-- One event, if it may happen.
+use Rattle.std.proofs.lemmas.Result.{on_ok_weaker}
+use Rattle.world_list.proofs.OneEach.{close_row}
+use Rattle.world_list.proofs.ends.push_close.Goals as goal
+
+pub returns : goal.returns
+returns c = on_ok_weaker c.push_if.result (close_row c.args.world.now c.args.a.0 c.may_close.result c.args.list.now.items c.push_if.new.list.items c.may_close.ensures) c.push_if.ensures

@@ -1,0 +1,7 @@
+-- One event, if it may happen.
+use Rattle.std.proofs.lemmas.Result.{on_ok_weaker}
+use Rattle.world_list.proofs.OneEach.{begin_row}
+use Rattle.world_list.proofs.lines.push_begin.Goals as goal
+
+pub returns : goal.returns
+returns c = on_ok_weaker c.push_if.result (begin_row c.args.world.now c.args.a.0 c.may_begin.result c.args.list.now.items c.push_if.new.list.items c.may_begin.ensures) c.push_if.ensures

@@ -1,0 +1,12 @@
+-- The servers so far are listed.
+use Rattle.std.specs.List.{flat_map}
+use Rattle.tree_definitions.specs.Numbers.{below}
+use Rattle.core_definitions.specs.EndGuards.{may_recover}
+use Rattle.core_definitions.specs.Enabled.{only}
+use Rattle.core_definitions.specs.Events.{Recover}
+use Rattle.world_list.specs.Listing.{Adds}
+use Rattle.world_list.proofs.recoveries.push_recover.Given as goal
+use Rattle.world_state.specs.States.{core_at}
+
+abbrev pub invariant-loop-number : goal.invariant-loop-number
+invariant-loop-number l = Adds l.fn.list.items l.list.items (flat_map (λ by. only (may_recover (core_at l.world) l.dead.0 by) (Recover l.dead.0 by)) (below l.number))

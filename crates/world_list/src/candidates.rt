@@ -1,0 +1,65 @@
+// The sectors of which a party may issue a write, and maybe others.
+ghost use Rattle.std.specs.Prelude.{◌≡◌, IfOk, OnOk};
+ghost use Rattle.world_list.specs.Going.{IsGoing, IsParty};
+ghost use Rattle.world_list.specs.Issuing.{AreCandidates, server_sectors};
+ghost use Rattle.world_list.specs.Wanting.{Joins, rescue_sectors};
+ghost use Rattle.world_parties.specs.States.{IsRecovery, recovering_by, recovery_in, servers_at};
+
+use crate::gathering::{join_kept, join_rescues};
+use frang_base::{NoMemory, ServerId};
+use ordered_map::OrderedMap;
+use std::alloc::Global;
+use world_parties::is_server;
+use world_state::World;
+
+// Those that the recovery of a party wants written, if any.
+fn join_recovery(
+    sectors: &mut OrderedMap<u64, ()>,
+    world: &World,
+    a: ServerId,
+) -> Result<(), NoMemory>
+    requires { IsParty a.0 }
+    ensures joins { OnOk result (Joins (rescue_sectors (recovering_by world.now.parties a.0)) sectors.old.entries sectors.new.entries) }
+    ensures core { recovery_in (recovering_by world.now.parties a.0) ≡ (servers_at world.now.parties a.0).recovery }
+    ensures fits { IsRecovery world.now.parties.segments a.0 (recovering_by world.now.parties a.0) }
+{
+    match world.parties().recovery(a) {
+        Some(demon) => join_rescues(sectors, demon),
+        None => Ok(()),
+    }
+}
+
+// Those of the log and the cache of a server.
+fn join_server(
+    sectors: &mut OrderedMap<u64, ()>,
+    world: &World,
+    a: ServerId,
+) -> Result<(), NoMemory>
+    ensures { OnOk result (Joins (server_sectors world.now a.0) sectors.old.entries sectors.new.entries) }
+{
+    if is_server(a) {
+        join_kept(sectors, &world.parties().get(a).server)
+    } else {
+        Ok(())
+    }
+}
+
+/// The candidates of a party. Its one refusal is want of memory.
+pub(crate) fn candidates(
+    alloc: Global,
+    world: &World,
+    a: ServerId,
+) -> Result<OrderedMap<u64, ()>, NoMemory>
+    requires going { IsGoing world.now }
+    requires party { IsParty a.0 }
+    ensures { IfOk result (λ sectors. AreCandidates world.now a.0 sectors.entries) }
+{
+    let mut sectors = OrderedMap::new(alloc);
+    // What its type keeps is known from here on.
+    let _over = world.is_over();
+    join_server(&mut sectors, world, a)?;
+    join_recovery(&mut sectors, world, a)?;
+    // That they ascend is known from here on.
+    let _count = sectors.count();
+    Ok(sectors)
+}
