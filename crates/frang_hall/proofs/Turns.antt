@@ -32,7 +32,7 @@ use Rattle.hall_runs.specs.Gates.{IsToEnter, IsToGive, NoLineToGive}
 use Rattle.hall_runs.specs.Keeping.{Caused, HostFails, KeptAt, Kept}
 use Rattle.hall_runs.specs.Outsets.{Outset, RunsTo, first_of}
 use Rattle.hall_runs.specs.Turning.{Comes, Entered, EnteredTo, IsMade, IsTurn, OneEvent, Turned, TurnedTo, after_event, after_failed, turn_of}
-use Rattle.hall_runs.proofs.Runs.{StepsTo, begins, begins_calm, fell_same, one_of, says_in, steps, still, told_none, within_still}
+use Rattle.hall_runs.proofs.Runs.{StepsTo, begins, begins_calm, fell_same, longer, one_of, says_in, steps, still, told_none, within_still}
 use Rattle.hall_runs.proofs.Turning.{CallLaws, EventTo, FailsTo, arrives_failed, arrives_late, arrives_written, get_failed, got, quiet, said as told_line}
 use Rattle.hall_runs.proofs.Views.{put_asked, viewed}
 use Rattle.frang_hall.specs.declared.room.Finish.{Finish}
@@ -126,7 +126,19 @@ fails before after outset event heard asked r said s t party sector flag kept go
                 count =
                     sym zero
                     ∙ count_on (length (saids_of v.record_)) (length (saids_of r.record_)) 0 said (goes.count ∙ ap (λ m. length (saids_of r.record_) + m) says) kept.count;
-                cause = rose_from (outset.outside.faults host_party) (s.faults host_party) (t.faults host_party) (kept.runs.fell.faults host_party) own;
+                cause = (
+                  rose_from (outset.outside.faults host_party) (s.faults host_party) (t.faults host_party) (kept.runs.fell.faults host_party) own,
+                  record {
+                    before = r;
+                    event = event;
+                    heard = heard;
+                    run = kept.runs.run;
+                    makes = goes.makes;
+                    failed = goes.failed ∙ fault ∙ ap Some is_host;
+                    at = ap sector_by asks ∙ at;
+                    on = Stays;
+                  },
+                );
                 host =
                     then_one (failed_calls (first_of outset) v goes.steps.runs.run host_party) (failed_calls (first_of outset) r kept.runs.run host_party)
                     (one_of host_party (fails_by asked heard)) (goes.steps.calls host_party) (one_is true e);
@@ -431,11 +443,24 @@ given_made before mid after outset event over said s over' said' t result given 
 
 -- ---- the gate
 
-caused_on : (outset : Outset) (r : RunMoment) (s : Outside) (line : ℕ) (over : Option End) → Caused over outset r s → Caused over outset (entered r line) s
-caused_on outset r s line None c = c
-caused_on outset r s line (Some Ended) c = c
-caused_on outset r s line (Some Mute) c = c
-caused_on outset r s line (Some (Fault sector)) c = c
+caused_on : (outset : Outset) (r : RunMoment) (s : Outside) (server : ℕ) (line : Line) (over : Option End) → CanEnter r.core server line → Caused over outset r s
+    → Caused over outset (entered r line.number) s
+caused_on outset r s server line None can c = c
+caused_on outset r s server line (Some Ended) can c = c
+caused_on outset r s server line (Some Mute) can c = c
+caused_on outset r s server line (Some (Fault sector)) can c = (
+  c.0,
+  record {
+    before = c.1.before;
+    event = c.1.event;
+    heard = c.1.heard;
+    run = c.1.run;
+    makes = c.1.makes;
+    failed = c.1.failed;
+    at = c.1.at;
+    on = longer (next c.1.before c.1.event c.1.heard) r (entered r line.number) c.1.on (Enter server line can);
+  },
+)
 
 same_fails : (over : Option End) (n m : ℕ) → n ≡ m + 0 → HostFails over m → HostFails over n
 same_fails over n m sum fails = subst (λ k. HostFails over k) (omega (arith, sum)) fails
@@ -450,7 +475,7 @@ enters_to w w' outset over said s r server next can stands kept =
       runs = goes.runs;
       stands_for = stands;
       count = kept.count;
-      cause = caused_on outset r s next.number over kept.cause;
+      cause = caused_on outset r s server next over can kept.cause;
       host = same_fails over (failed_calls (first_of outset) v goes.runs.run host_party) (failed_calls (first_of outset) r kept.runs.run host_party) (goes.calls host_party) kept.host;
     }
 

@@ -1,5 +1,5 @@
 -- What a command did is by the same files for all that is promised of it, whether files are told or not.
-use Rattle.std.proofs.Common.{◌≡◌, ◌+◌, ◌<◌, ◌≤◌, Option, Some, None, Result, Ok, Err, List, ℕ, length, replicate, refl, sym, ◌∙◌, ap, subst, arith}
+use Rattle.std.proofs.Common.{◌≡◌, inl, inr, ◌+◌, ◌<◌, ◌≤◌, Option, Some, None, Result, Ok, Err, List, ℕ, length, replicate, refl, sym, ◌∙◌, ap, subst, arith}
 use Rattle.std.proofs.lemmas.List.{length-replicate}
 use Rattle.frang_base.specs.declared.limits.TheConstants.{SCRIPT_BYTES_MAX}
 use Rattle.frang_base.specs.declared.script.Line.{Line}
@@ -30,7 +30,7 @@ pub script_ends : (segments : ℕ) (bytes : List ℕ) (out after : State) (scrip
 script_ends segments bytes out after script (Ok done) is e = (script, is, e)
 script_ends segments bytes out after script (Err (run.Mute said)) is e = (script, is, e)
 script_ends segments bytes out after script (Err (run.Fault sector)) is e = (script, is, e)
-script_ends segments bytes out after script (Err run.NoMemory) is e = tt
+script_ends segments bytes out after script (Err run.NoMemory) is e = inr (script, is, e)
 
 pub script_leaves : (segments : ℕ) (bytes : List ℕ) (out after : State) (script : List Line) → script_of bytes ≡ Ok script → Leaves script segments out after → LeavesBytes segments (script_of bytes) out after
 script_leaves segments bytes out after script is leaves = subst (λ read. LeavesBytes segments read out after) (sym is) leaves
@@ -77,7 +77,7 @@ module _ (asks : Asks) (files files_after : FilesState) (out : State) where
       record { holds = some.holds; held = some.held; ends = ends some.holds; always = untouched_file asks.segments (some.holds asks.script) out none }
 
   pub want_run : NothingYet out.acts → HasRun asks files files_after out out ends.NoMemory
-  want_run none = plain_run ends.NoMemory (λ holds. tt) none
+  want_run none = plain_run ends.NoMemory (λ holds. inl refl) none
 
   pub failed_run : Rose files.read_faults files_after.read_faults → NothingYet out.acts → HasRun asks files files_after out out ends.ReadFailed
   failed_run rose none = plain_run ends.ReadFailed (λ holds. (rose, none)) none
@@ -93,7 +93,7 @@ module _ (asks : Asks) (files files_after : FilesState) (out after : State) wher
   of_file holds ends.Done file = file
   of_file holds (ends.BadScript fault) file = file
   of_file holds ends.BadWords file = file
-  of_file holds ends.NoMemory file = tt
+  of_file holds ends.NoMemory file = inr file
   of_file holds ends.ReadFailed file = absurd file.2.1
   of_file holds (ends.Mute said) file = file
   of_file holds (ends.Fault sector) file = file

@@ -6,7 +6,8 @@
 ghost use Rattle.std.specs.Prelude.{◌≡◌};
 ghost use Rattle.std.specs.Process.{exit_status};
 
-use crate::{COMMANDS, Status, frang};
+use crate::explaining::explain;
+use crate::{Status, frang};
 use frang_outside::{DirFiles, NoGate, StdOutside};
 use std::alloc::Global;
 use std::env;
@@ -19,27 +20,6 @@ fn exit_code(status: &Status) -> ExitCode
     ensures { exit_status result ≡ status.now.code }
 {
     ExitCode::from(status.code)
-}
-
-// Says on standard error what a status means: a line of numbers, a line of words, which is left out where memory is short, and where the
-// words were no command each command.
-fn explain<R: Runtime>(alloc: Global, rt: &R, status: &Status) -> anyhow::Result<()> {
-    let code = status.code;
-    let line = status.line;
-    let at = status.at;
-    if code == 0 {
-        return Ok(());
-    }
-    eprintln!(rt; "frang: status {code} line {line} at {at}")?;
-    if let Ok(sentence) = status.sentence(alloc) {
-        eprintln!(rt; "frang: {sentence}")?;
-    }
-    if code == 2 {
-        for command in COMMANDS {
-            eprintln!(rt; "frang {command}")?;
-        }
-    }
-    Ok(())
 }
 
 // The words after the program's name.
@@ -64,14 +44,14 @@ fn status_of<R: Runtime + Threads + Wait + Send + Sync>(
 }
 
 /// Does what the words after the program's name ask, and gives the status with which the process is to end. Where it isn't 0, its line
-/// of numbers stands on standard error, and below it what it means in words. An error comes where the arguments can't be had, or where
-/// standard error takes no line.
+/// of numbers stands on standard error, and below it what it means in words, with the thing that is wrong: the word of a script's line,
+/// the option and its value, the file. An error comes where the arguments can't be had, or where standard error takes no line.
 pub fn run_program<R: Runtime + Threads + Wait + Send + Sync>(
     alloc: Global,
     rt: &R,
 ) -> anyhow::Result<ExitCode> {
     let words = given_words(alloc, rt)?;
     let status = status_of(alloc, rt, &words)?;
-    explain(alloc, rt, &status)?;
+    explain(alloc, rt, &words, &status)?;
     Ok(exit_code(&status))
 }

@@ -3,9 +3,6 @@ use Rattle.std.proofs.Common.{◌≡◌, inl, inr, ℕ, Option, Some, None, Resu
 use Rattle.std.specs.Prelude.{MatchResult}
 use Rattle.frang_base.specs.declared.fault.NoMemory.{NoMemory as Want}
 use Rattle.frang_base.specs.declared.script.Line.{Line}
-use Rattle.frang_base.specs.declared.sector.Sector.{Sector}
-use Rattle.frang_outside.specs.declared.outside.PutFault.{PutFault}
-use Rattle.frang_outside.specs.declared.outside.PutFault.TheVariants as put
 use Rattle.frang_outside.specs.Outside.{State as Outside, Rose}
 use Rattle.core_definitions.specs.Opening.{fresh_puts}
 use Rattle.core_definitions.specs.Scripts.{host_party}
@@ -13,6 +10,8 @@ use Rattle.core_definitions.specs.Settings.{setting_of}
 use Rattle.hall_runs.specs.declared.event.End.{End}
 use Rattle.hall_runs.specs.declared.event.End.TheVariants.{Ended, Mute, Fault}
 use Rattle.hall_runs.specs.Keeping.{Kept}
+use Rattle.opening.specs.declared.fresh.OpenFault.{OpenFault}
+use Rattle.opening.specs.declared.fresh.OpenFault.TheVariants as fault
 use Rattle.opening.specs.Puts.{HasPut, StopsAt}
 use Rattle.frang_hall.specs.declared.room.Finish.{Finish}
 use Rattle.frang_hall.specs.Finishing.{Finished, Ran}
@@ -22,16 +21,16 @@ use Rattle.hall_scripts.specs.Runs.{AtFirst, Ends, InOpening, InRun, Leaves, Ope
 
 -- ---- the opening
 
-pub opens : (segments : ℕ) (before after : Outside) (sector : Sector) (result : Result (Unit {0}) PutFault) → MatchResult result (λ _. HasPut before after (fresh_puts segments)) (λ fault. StopsAt before after (fresh_puts segments) fault)
-    → Opens segments before after (opened_by result sector)
-opens segments before after sector (Ok done) puts = puts
-opens segments before after sector (Err put.Failed) stop = stop
-opens segments before after sector (Err put.NoMemory) stop = stop
+pub opens : (segments : ℕ) (before after : Outside) (result : Result (Unit {0}) OpenFault) → MatchResult result (λ _. HasPut before after (fresh_puts segments)) (λ fault. StopsAt before after (fresh_puts segments) fault)
+    → Opens segments before after (opened_by result)
+opens segments before after (Ok done) puts = puts
+opens segments before after (Err (fault.Failed sector)) stop = stop
+opens segments before after (Err fault.NoMemory) stop = stop
 
 module _ (script : List Line) (segments : ℕ) (before : Outside) where
   pub stopped : (after : Outside) (fault : RunFault) → Opens segments before after (Err fault) → Ends script segments before after (Err fault)
   stopped after (run.Mute said) none = absurd none
-  stopped after (run.Fault sector) stop = (stop.refused.1.own, inl stop)
+  stopped after (run.Fault sector) stop = (stop.refused.2.own, inl stop)
   stopped after run.NoMemory stop = InOpening stop
 
   -- ---- the run
@@ -60,7 +59,7 @@ module _ (script : List Line) (segments : ℕ) (before : Outside) where
     by_end (Some Ended) said (Ok f) kept finish = subst (λ x. Ends script segments before after (came_to_by x)) (sym finish) (to (Some Ended) said kept)
     by_end (Some Mute) said (Ok f) kept finish = subst (λ x. Ends script segments before after (came_to_by x)) (sym finish) (say_rose kept.is.cause, from (Some Mute) said kept)
     by_end (Some (Fault sector)) said (Ok f) kept finish =
-        subst (λ x. Ends script segments before after (came_to_by x)) (sym finish) (host_rose kept.is.cause, inr (to (Some (Fault sector)) said kept))
+        subst (λ x. Ends script segments before after (came_to_by x)) (sym finish) (host_rose kept.is.cause.0, inr (to (Some (Fault sector)) said kept))
 
     pub ran : (result : Result Finish Want) → Ran (setting_of script segments 1) opened after result → Ends script segments before after (came_to result)
     ran result r = by_end r.over r.said result r.kept r.finish
@@ -70,8 +69,8 @@ module _ (script : List Line) (segments : ℕ) (before : Outside) where
   pub leaves : (after : Outside) (result : Result (Unit {0}) RunFault) → Ends script segments before after result → Leaves script segments before after
   leaves after (Ok done) ran = Went (Some Ended) ran
   leaves after (Err (run.Mute said)) (rose, ran) = Went (Some Mute) (record { said = said; ran = ran })
-  leaves after (Err (run.Fault sector)) (rose, inl stop) = Stopped put.Failed stop
+  leaves after (Err (run.Fault sector)) (rose, inl stop) = Stopped (fault.Failed sector) stop
   leaves after (Err (run.Fault sector)) (rose, inr ran) = Went (Some (Fault sector)) ran
   leaves after (Err run.NoMemory) (AtFirst same) = Untouched same
-  leaves after (Err run.NoMemory) (InOpening stop) = Stopped put.NoMemory stop
+  leaves after (Err run.NoMemory) (InOpening stop) = Stopped fault.NoMemory stop
   leaves after (Err run.NoMemory) (InRun ran) = Went None ran

@@ -3,8 +3,6 @@ use Rattle.std.specs.Prelude.{◌≡◌, ◌⊎◌, ℕ, if◌then◌else◌, Op
 use Rattle.frang_base.specs.declared.fault.NoMemory.{NoMemory as Want}
 use Rattle.frang_base.specs.declared.script.Line.{Line}
 use Rattle.frang_base.specs.declared.sector.Sector.{Sector}
-use Rattle.frang_outside.specs.declared.outside.PutFault.{PutFault}
-use Rattle.frang_outside.specs.declared.outside.PutFault.TheVariants as put
 use Rattle.frang_outside.specs.Outside.{State as Outside, Rose}
 use Rattle.core_definitions.specs.Opening.{fresh_puts}
 use Rattle.core_definitions.specs.Scripts.{host_party}
@@ -13,6 +11,8 @@ use Rattle.hall_runs.specs.declared.event.End.{End}
 use Rattle.hall_runs.specs.declared.event.End.TheVariants.{Ended, Mute, Fault}
 use Rattle.hall_runs.specs.Keeping.{Kept}
 use Rattle.hall_runs.specs.Outsets.{Outset}
+use Rattle.opening.specs.declared.fresh.OpenFault.{OpenFault}
+use Rattle.opening.specs.declared.fresh.OpenFault.TheVariants as opens
 use Rattle.opening.specs.Puts.{HasPut, StopsAt}
 use Rattle.frang_hall.specs.declared.room.Finish.{Finish}
 use Rattle.hall_scripts.specs.declared.fault.RunFault.{RunFault}
@@ -38,7 +38,7 @@ pub record RanTo (script : List Line) (segments : ℕ) (before after : Outside) 
 -- what a run leaves: at first nothing; then the first of the opening's puts; then all of them, and what a run of the core leaves from there
 pub data Leaves (script : List Line) (segments : ℕ) (before after : Outside) : Type 0 where
   Untouched : after ≡ before → Leaves script segments before after
-  Stopped : (fault : PutFault) → StopsAt before after (fresh_puts segments) fault → Leaves script segments before after
+  Stopped : (fault : OpenFault) → StopsAt before after (fresh_puts segments) fault → Leaves script segments before after
   Went : (over : Option End) → RanTo script segments before after over → Leaves script segments before after
 
 -- ---- by the result
@@ -46,15 +46,15 @@ pub data Leaves (script : List Line) (segments : ℕ) (before after : Outside) :
 -- why it wants memory: before anything, in the opening, or in the run, which then isn't over
 pub data Wants (script : List Line) (segments : ℕ) (before after : Outside) : Type 0 where
   AtFirst : after ≡ before → Wants script segments before after
-  InOpening : StopsAt before after (fresh_puts segments) put.NoMemory → Wants script segments before after
+  InOpening : StopsAt before after (fresh_puts segments) opens.NoMemory → Wants script segments before after
   InRun : RanTo script segments before after None → Wants script segments before after
 
--- why it ends so: the run came to its end; a say failed, after so many lines; a put of the opening failed, or a get or put of the host in the run
+-- why it ends so: the run came to its end; a say failed, after so many lines; a put of the opening failed at this sector, or a get or put of the host in the run
 abbrev pub Ends : List Line → ℕ → Outside → Outside → Result (Unit {0}) RunFault → Type 0
 Ends script segments before after (Ok done) = RanTo script segments before after (Some Ended)
 Ends script segments before after (Err (run.Mute said)) = Rose before.say_faults after.say_faults × RanFrom script segments before after (Some Mute) said
 Ends script segments before after (Err (run.Fault sector)) =
-    Rose (before.faults host_party) (after.faults host_party) × (StopsAt before after (fresh_puts segments) put.Failed ⊎ RanTo script segments before after (Some (Fault sector)))
+    Rose (before.faults host_party) (after.faults host_party) × (StopsAt before after (fresh_puts segments) (opens.Failed sector) ⊎ RanTo script segments before after (Some (Fault sector)))
 Ends script segments before after (Err run.NoMemory) = Wants script segments before after
 
 -- ---- its parts
@@ -63,13 +63,13 @@ Ends script segments before after (Err run.NoMemory) = Wants script segments bef
 abbrev pub Opens : ℕ → Outside → Outside → Result (Unit {0}) RunFault → Type 0
 Opens segments before after (Ok done) = HasPut before after (fresh_puts segments)
 Opens segments before after (Err (run.Mute said)) = ⊥
-Opens segments before after (Err (run.Fault sector)) = StopsAt before after (fresh_puts segments) put.Failed
-Opens segments before after (Err run.NoMemory) = StopsAt before after (fresh_puts segments) put.NoMemory
+Opens segments before after (Err (run.Fault sector)) = StopsAt before after (fresh_puts segments) (opens.Failed sector)
+Opens segments before after (Err run.NoMemory) = StopsAt before after (fresh_puts segments) opens.NoMemory
 
-abbrev pub opened_by : Result (Unit {0}) PutFault → Sector → Result (Unit {0}) RunFault
-opened_by (Ok done) sector = Ok tt
-opened_by (Err put.Failed) sector = Err (run.Fault sector)
-opened_by (Err put.NoMemory) sector = Err run.NoMemory
+abbrev pub opened_by : Result (Unit {0}) OpenFault → Result (Unit {0}) RunFault
+opened_by (Ok done) = Ok tt
+opened_by (Err (opens.Failed sector)) = Err (run.Fault sector)
+opened_by (Err opens.NoMemory) = Err run.NoMemory
 
 -- the result by what a run of the hall came to
 abbrev pub fault_to : Option Sector → Result (Unit {0}) RunFault

@@ -10,37 +10,31 @@ ghost use Rattle.sector_bytes.specs.Sectors.{Sectors};
 ghost use Rattle.hall_scripts.specs.Runs.{Ends, Opens, came_to, opened_by};
 
 use crate::fault::RunFault;
-use crate::watched::Watched;
-use frang_base::{NoMemory, Sector};
+use frang_base::NoMemory;
 use frang_hall::{Finish, Machine, run_drawn, run_machine};
-use frang_outside::{Gate, Outside, PutFault};
-use opening::open_fresh;
+use frang_outside::{Gate, Outside};
+use opening::{OpenFault, open_fresh};
 use std::sync::Wait;
 use std::thread::Threads;
 
-// How the opening ended, whose last put was of a sector.
-fn opened_by(opened: Result<(), PutFault>, sector: Sector) -> Result<(), RunFault>
-    ensures { result ≡ opened_by opened sector }
+// How the opening ended.
+fn opened_by(opened: Result<(), OpenFault>) -> Result<(), RunFault>
+    ensures { result ≡ opened_by opened }
 {
     match opened {
         Ok(()) => Ok(()),
-        Err(PutFault::Failed) => Err(RunFault::Fault { sector }),
-        Err(PutFault::NoMemory) => Err(RunFault::NoMemory),
+        Err(OpenFault::Failed { sector }) => Err(RunFault::Fault { sector }),
+        Err(OpenFault::NoMemory) => Err(RunFault::NoMemory),
     }
 }
 
 // Puts the opening of a fresh disk.
-fn open<O: Outside>(out: O, segments: u32) -> (Result<(), RunFault>, O)
+fn open<O: Outside>(mut out: O, segments: u32) -> (Result<(), RunFault>, O)
     requires { IsTrue (param_fits (fresh_param segments)) }
     ensures { Opens segments (O.state out) (O.state result.1) result.0 }
 {
-    let mut watched = Watched {
-        out,
-        sector: Sector(0),
-    };
-    let opened = open_fresh(&mut watched, segments);
-    let Watched { out, sector } = watched;
-    (opened_by(opened, sector), out)
+    let opened = open_fresh(&mut out, segments);
+    (opened_by(opened), out)
 }
 
 // Runs a machine: in an order of events that a number picks, or on threads.

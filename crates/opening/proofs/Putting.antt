@@ -3,11 +3,12 @@ use Rattle.std.proofs.Common.{◌≡◌, ◌⊎◌, inl, inr, ℕ, ◌<◌, ◌=
 use Rattle.std.proofs.lemmas.Result.{MatchResult-weaker}
 use Rattle.frang_base.specs.declared.limits.TheConstants.{ROOT_INODE}
 use Rattle.frang_base.specs.declared.script.Line.{Line}
+use Rattle.frang_base.specs.declared.sector.Sector.{Sector}
 use Rattle.frang_outside.specs.declared.act.Act.TheVariants as act
 use Rattle.frang_outside.specs.declared.act.Taken.{Taken}
 use Rattle.frang_outside.specs.declared.act.Taken.TheVariants.{Written, Late}
 use Rattle.frang_outside.specs.declared.outside.PutFault.{PutFault}
-use Rattle.frang_outside.specs.declared.outside.PutFault.TheVariants.{Failed, NoMemory}
+use Rattle.frang_outside.specs.declared.outside.PutFault.TheVariants as put
 use Rattle.frang_outside.specs.Disk.{written}
 use Rattle.frang_outside.specs.Outside.{State as Outside, NoneRose, OldOrNew, OneRose, PutOutcome}
 use Rattle.sector_bytes.specs.Blocks.{Block, zero_block}
@@ -23,6 +24,8 @@ use Rattle.core_definitions.specs.Runs.{acts_of}
 use Rattle.core_definitions.specs.Scripts.{host_party}
 use Rattle.hall_runs.specs.Outsets.{told_behind}
 use Rattle.hall_runs.proofs.Runs.{acts_append, told_append, told_none, told_one}
+use Rattle.opening.specs.declared.fresh.OpenFault.{OpenFault}
+use Rattle.opening.specs.declared.fresh.OpenFault.TheVariants.{Failed, NoMemory}
 use Rattle.opening.specs.Puts.{HasPut, IsBlank, Refused, StopsAt}
 
 -- ---- sectors
@@ -86,16 +89,19 @@ put_one old new next Written outcome = record {
 }
 put_one old new next Late outcome = absurd (late_never (opening_put next).stamp outcome.0)
 
-pub refused_one : (old new : Outside) (next : ℕ × Block) (fault : PutFault) → PutOutcome old new (opening_put next) (Err fault) → StopsAt old new (next ∷ []) fault
-refused_one old new next Failed outcome = record {
+-- at its sector
+pub failed_one : (old new : Outside) (sector : Sector) (block : Block) → PutOutcome old new (opening_put (sector.0, block)) (Err put.Failed) → StopsAt old new ((sector.0, block) ∷ []) (Failed sector)
+failed_one old new sector block outcome = record {
   made = [];
-  next = next;
+  next = (sector.0, block);
   left = [];
   parts = refl;
   acts = outcome.2 ∙ sym (told_none old.acts);
-  refused = (outcome.1, outcome.3);
+  refused = (refl, outcome.1, outcome.3);
 }
-refused_one old new next NoMemory outcome = record {
+
+pub wanting_one : (old new : Outside) (next : ℕ × Block) → PutOutcome old new (opening_put next) (Err put.NoMemory) → StopsAt old new (next ∷ []) NoMemory
+wanting_one old new next outcome = record {
   made = [];
   next = next;
   left = [];
@@ -123,16 +129,17 @@ either_same a b new next same either = record {
     go (inl e) = inl (e ∙ same next.0)
     go (inr e) = inr e
 
-refused_behind : (old middle new : Outside) (xs made : Puts) (next : ℕ × Block) (fault : PutFault) → HasPut old middle xs → Refused middle new made next fault → Refused old new (xs ++ made) next fault
-refused_behind old middle new xs made next Failed has refused = (
+refused_behind : (old middle new : Outside) (xs made : Puts) (next : ℕ × Block) (fault : OpenFault) → HasPut old middle xs → Refused middle new made next fault → Refused old new (xs ++ made) next fault
+refused_behind old middle new xs made next (Failed sector) has refused = (
+  refused.0,
   either_same (put_over middle.sectors made) (put_over old.sectors (xs ++ made)) new.sectors next
-      (sectors_behind old.sectors middle.sectors (put_over middle.sectors made) xs made has.sectors (λ x. refl)) refused.0,
-  one_behind old middle new host_party has.counts refused.1,
+      (sectors_behind old.sectors middle.sectors (put_over middle.sectors made) xs made has.sectors (λ x. refl)) refused.1,
+  one_behind old middle new host_party has.counts refused.2,
 )
 refused_behind old middle new xs made next NoMemory has refused =
     (sectors_behind old.sectors middle.sectors new.sectors xs made has.sectors refused.0, none_behind old middle new has.counts refused.1)
 
-pub stops_behind : (old middle new : Outside) (xs ys : Puts) (fault : PutFault) → HasPut old middle xs → StopsAt middle new ys fault → StopsAt old new (xs ++ ys) fault
+pub stops_behind : (old middle new : Outside) (xs ys : Puts) (fault : OpenFault) → HasPut old middle xs → StopsAt middle new ys fault → StopsAt old new (xs ++ ys) fault
 stops_behind old middle new xs ys fault has stops = record {
   made = xs ++ stops.made;
   next = stops.next;
@@ -143,7 +150,7 @@ stops_behind old middle new xs ys fault has stops = record {
 }
 
 -- more would have followed
-pub stops_before : (old new : Outside) (xs ys : Puts) (fault : PutFault) → StopsAt old new xs fault → StopsAt old new (xs ++ ys) fault
+pub stops_before : (old new : Outside) (xs ys : Puts) (fault : OpenFault) → StopsAt old new xs fault → StopsAt old new (xs ++ ys) fault
 stops_before old new xs ys fault stops = record {
   made = stops.made;
   next = stops.next;
@@ -162,7 +169,7 @@ abbrev segment_put : ℕ × Block
 segment_put = (sector_of (region.Segment 0), bitmap_bytes first_bitmap)
 
 module _ (segments : ℕ) (a b : Outside) where
-  pub first_stops : (root : Block) (fault : PutFault) → root ≡ inode_bytes root_inode → StopsAt a b ((sector_of (region.Inode ROOT_INODE), root) ∷ []) fault → StopsAt a b (fresh_puts segments) fault
+  pub first_stops : (root : Block) (fault : OpenFault) → root ≡ inode_bytes root_inode → StopsAt a b ((sector_of (region.Inode ROOT_INODE), root) ∷ []) fault → StopsAt a b (fresh_puts segments) fault
   first_stops root fault e stops =
       stops_before a b (root_put ∷ []) (segment_put ∷ param_put (fresh_param segments) ∷ []) fault (subst (λ block. StopsAt a b ((sector_of (region.Inode ROOT_INODE), block) ∷ []) fault) e stops)
 
@@ -171,12 +178,12 @@ module _ (segments : ℕ) (a b : Outside) where
     root_made : HasPut a b (root_put ∷ [])
     root_made = subst (λ block. HasPut a b ((sector_of (region.Inode ROOT_INODE), block) ∷ [])) e first
 
-    pub second_stops : (fault : PutFault) → StopsAt b c ((sector_of (region.Segment 0), segment) ∷ []) fault → StopsAt a c (fresh_puts segments) fault
+    pub second_stops : (fault : OpenFault) → StopsAt b c ((sector_of (region.Segment 0), segment) ∷ []) fault → StopsAt a c (fresh_puts segments) fault
     second_stops fault stops =
         stops_before a c (root_put ∷ segment_put ∷ []) (param_put (fresh_param segments) ∷ []) fault
         (stops_behind a b c (root_put ∷ []) (segment_put ∷ []) fault root_made (subst (λ block. StopsAt b c ((sector_of (region.Segment 0), block) ∷ []) fault) f stops))
 
-    pub third_made : (d : Outside) (param : Block) (result : Result (Unit {0}) PutFault) → param ≡ param_bytes (fresh_param segments) → HasPut b c ((sector_of (region.Segment 0), segment) ∷ []) →
+    pub third_made : (d : Outside) (param : Block) (result : Result (Unit {0}) OpenFault) → param ≡ param_bytes (fresh_param segments) → HasPut b c ((sector_of (region.Segment 0), segment) ∷ []) →
         MatchResult result (λ done. HasPut c d ((sector_of region.Param, param) ∷ [])) (λ fault. StopsAt c d ((sector_of region.Param, param) ∷ []) fault) →
         MatchResult result (λ done. HasPut a d (fresh_puts segments)) (λ fault. StopsAt a d (fresh_puts segments) fault)
     third_made d param result g second third =
@@ -189,6 +196,6 @@ module _ (segments : ℕ) (a b : Outside) where
         two_made = put_behind a b c (root_put ∷ []) (segment_put ∷ []) root_made (subst (λ block. HasPut b c ((sector_of (region.Segment 0), block) ∷ [])) f second)
 
 -- over sectors of zeros they make the disk from which a run begins
-pub start_made : (segments : ℕ) (a b : Outside) (result : Result (Unit {0}) PutFault) → MatchResult result (λ done. HasPut a b (fresh_puts segments)) (λ fault. StopsAt a b (fresh_puts segments) fault) →
+pub start_made : (segments : ℕ) (a b : Outside) (result : Result (Unit {0}) OpenFault) → MatchResult result (λ done. HasPut a b (fresh_puts segments)) (λ fault. StopsAt a b (fresh_puts segments) fault) →
     OnOk result (IsBlank a → (script : List Line) → SameSectors b.sectors (fresh_start script segments).disk)
 start_made segments a b result made = MatchResult-weaker result made (λ done has blank script. blank_put a b (fresh_puts segments) has blank) (λ fault stops. tt)

@@ -1,7 +1,5 @@
 -- What the puts of an opening leave in an outside: all of them, or those before one that was refused.
 use Rattle.std.specs.Prelude.{◌≡◌, ℕ, ◌∷◌, ◌++◌}
-use Rattle.frang_outside.specs.declared.outside.PutFault.{PutFault}
-use Rattle.frang_outside.specs.declared.outside.PutFault.TheVariants.{Failed, NoMemory}
 use Rattle.frang_outside.specs.Outside.{State as Outside, NoneRose, OldOrNew, OneRose}
 use Rattle.sector_bytes.specs.Blocks.{Block, zero_block}
 use Rattle.sector_bytes.specs.Sectors.{SameSectors}
@@ -9,6 +7,8 @@ use Rattle.core_definitions.specs.Opening.{Puts, opening_deeds, opening_put, put
 use Rattle.core_definitions.specs.Runs.{acts_of}
 use Rattle.core_definitions.specs.Scripts.{host_party}
 use Rattle.hall_runs.specs.Outsets.{told_behind}
+use Rattle.opening.specs.declared.fresh.OpenFault.{OpenFault}
+use Rattle.opening.specs.declared.fresh.OpenFault.TheVariants.{Failed, NoMemory}
 
 -- each was written: the sectors have them in their order, the record has them behind what it had, where it is told, and no call failed
 pub record HasPut (old new : Outside) (puts : Puts) : Type 0 where
@@ -16,14 +16,14 @@ pub record HasPut (old new : Outside) (puts : Puts) : Type 0 where
   pub acts : new.acts ≡ told_behind old.acts (acts_of (opening_deeds puts))
   pub counts : NoneRose old new
 
--- behind those that were written, the next was refused: it failed, its sector has the old bytes or the new ones, and the count of the host alone rose; or memory was wanting, and no sector
+-- behind those that were written, the next was refused: it failed, its sector is this one and has the old bytes or the new ones, and the count of the host alone rose; or memory was wanting, and no sector
 -- and no count changed
-abbrev pub Refused : Outside → Outside → Puts → ℕ × Block → PutFault → Type 0
-Refused old new made next Failed = OldOrNew (put_over old.sectors made) new.sectors (opening_put next) × OneRose old new host_party
+abbrev pub Refused : Outside → Outside → Puts → ℕ × Block → OpenFault → Type 0
+Refused old new made next (Failed sector) = (next.0 ≡ sector.0) × OldOrNew (put_over old.sectors made) new.sectors (opening_put next) × OneRose old new host_party
 Refused old new made next NoMemory = SameSectors new.sectors (put_over old.sectors made) × NoneRose old new
 
 -- the first of them were written, and the one behind these was refused: the record has those that were written, where it is told
-pub record StopsAt (old new : Outside) (puts : Puts) (fault : PutFault) : Type 0 where
+pub record StopsAt (old new : Outside) (puts : Puts) (fault : OpenFault) : Type 0 where
   pub made : Puts
   pub next : ℕ × Block
   pub left : Puts

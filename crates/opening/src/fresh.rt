@@ -19,12 +19,19 @@ use frang_base::{Bitmap, Block, Sector, ServerId};
 use frang_layout::sector_of;
 use frang_outside::{Outside, Put, PutFault};
 
+/// Why an opening stops: a put failed, at this sector, or memory was wanting.
+#[derive(Clone, Copy, PartialEq, Eq)]
+pub enum OpenFault {
+    Failed { sector: Sector },
+    NoMemory,
+}
+
 /// Puts a fresh disk of so many segments, 1 to 64: the root's inode, the first segment of the bitmap, and last the parameters of the
 /// first run. Each is the host's put at tick 0. What the other sectors hold isn't looked at; over sectors of zeros the disk is then the one that a run begins from.
 ///
 /// After `Failed` the puts before the failed one are made, its sector has the old bytes or the new ones, and the count of the host has
 /// risen. After `NoMemory` the puts before the refused one are made, and no more.
-pub fn open_fresh<O: Outside>(out: &mut O, segments: u32) -> Result<(), PutFault>
+pub fn open_fresh<O: Outside>(out: &mut O, segments: u32) -> Result<(), OpenFault>
     requires { IsTrue (param_fits (fresh_param segments)) }
     ensures puts { MatchResult result (λ _. HasPut (O.state out.old) (O.state out.new) (fresh_puts segments))
         (λ fault. StopsAt (O.state out.old) (O.state out.new) (fresh_puts segments) fault) }
@@ -36,13 +43,15 @@ pub fn open_fresh<O: Outside>(out: &mut O, segments: u32) -> Result<(), PutFault
 }
 
 // One put of the host, which is never late.
-fn put_block<O: Outside>(out: &mut O, place: &Region, block: Block) -> Result<(), PutFault>
+fn put_block<O: Outside>(out: &mut O, place: &Region, block: Block) -> Result<(), OpenFault>
     ensures { MatchResult result (λ _. HasPut (O.state out.old) (O.state out.new) ((sector_of place.now, block) ∷ []))
         (λ fault. StopsAt (O.state out.old) (O.state out.new) ((sector_of place.now, block) ∷ []) fault) }
 {
-    match out.put(&opening_put(sector_of(place), block)) {
+    let sector = sector_of(place);
+    match out.put(&opening_put(sector, block)) {
         Ok(_) => Ok(()),
-        Err(fault) => Err(fault),
+        Err(PutFault::Failed) => Err(OpenFault::Failed { sector }),
+        Err(PutFault::NoMemory) => Err(OpenFault::NoMemory),
     }
 }
 

@@ -5,4 +5,4 @@
 
 mod fresh;
 
-pub use fresh::open_fresh;
+pub use fresh::{OpenFault, open_fresh};

@@ -4,8 +4,8 @@ ghost use Rattle.disk_definitions.specs.FreshDisk.{fresh_param};
 ghost use Rattle.disk_definitions.specs.Params.{param_fits};
 
 use frang_base::{Block, NoMemory, Sector, ServerId};
-use frang_outside::{Act, FaultyOutside, MemOutside, Outside, PutFault, Taken};
-use opening::open_fresh;
+use frang_outside::{Act, FaultyOutside, MemOutside, Outside, Taken};
+use opening::{OpenFault, open_fresh};
 use std::alloc::Global;
 use std::process::Abort;
 use std::test::Fail;
@@ -85,7 +85,15 @@ fn failing(alloc: Global, put: u64) -> Result<FaultyOutside, NoMemory> {
     Ok(FaultyOutside::new(alloc, Vec::new(alloc), puts, Vec::new(alloc)))
 }
 
-// The put of this ordinal fails: the record has those before it, and the sectors from it on are zero.
+// The opening failed at this sector.
+fn failed_at(opened: Result<(), OpenFault>, sector: Option<&u64>) -> bool {
+    match (opened, sector) {
+        (Err(OpenFault::Failed { sector: at }), Some(sector)) => at.0 == *sector,
+        _ => false,
+    }
+}
+
+// The put of this ordinal fails, which is of the first of these sectors: the record has those before it, and the sectors from it on are zero.
 fn stops(
     rt: &impl Abort,
     alloc: Global,
@@ -96,7 +104,7 @@ fn stops(
     let mut out = failing(alloc, put)?;
     let opened = open_fresh(&mut out, 16);
     let puts = are_puts(out.acts(), before)?;
-    assert!(rt; opened == Err(PutFault::Failed) && puts, "put {put}");
+    assert!(rt; failed_at(opened, from.first()) && puts, "put {put}");
     for sector in from {
         let zero = reads(&mut out, *sector, "")?;
         assert!(rt; zero, "sector {sector}");

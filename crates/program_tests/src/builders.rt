@@ -25,8 +25,17 @@ pub fn words_of(alloc: Global, words: &[&str]) -> Result<Vec<String>, AllocError
     Ok(made)
 }
 
+// The words of a line, parted by blanks.
+pub fn words_in(alloc: Global, line: &str) -> Result<Vec<String>, NoMemory> {
+    let mut words = Vec::new(alloc);
+    for word in line.split_whitespace() {
+        words.push(String::from_str(alloc, word)?)?;
+    }
+    Ok(words)
+}
+
 // The lines said, one after another.
-fn lines_said(alloc: Global, acts: &[Act]) -> Result<Vec<u8>, NoMemory> {
+pub fn lines_said(alloc: Global, acts: &[Act]) -> Result<Vec<u8>, NoMemory> {
     let mut text = Vec::new(alloc);
     for act in acts {
         if let Act::Said(line) = act {

@@ -5,6 +5,10 @@
 #[cfg(test)]
 mod builders;
 #[cfg(test)]
+mod errors;
+#[cfg(test)]
+mod gates;
+#[cfg(test)]
 mod outsides;
 #[cfg(test)]
 mod refusals;
@@ -13,4 +17,8 @@ mod rows;
 #[cfg(test)]
 mod sentences;
 #[cfg(test)]
+mod several;
+#[cfg(test)]
 mod times;
+#[cfg(test)]
+mod volume;

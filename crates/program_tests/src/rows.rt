@@ -1,5 +1,7 @@
 // Whole runs: what is said, and how each ends.
-use crate::builders::{DONE, Run, Told, call, expect_runs, tell, tell_words, told_by, words_of};
+use crate::builders::{
+    DONE, Run, Told, call, expect_runs, tell, tell_words, told_by, words_in, words_of,
+};
 use frang_base::NoMemory;
 use frang_base::limits::SCRIPT_BYTES_MAX;
 use frang_outside::{FaultyOutside, MemFiles};
@@ -130,22 +132,13 @@ fn says(told: &Told, text: &str) -> bool {
     told.status == DONE && told.text.as_slice() == text.as_bytes()
 }
 
-// The words of a line, parted by blanks.
-fn parted(alloc: Global, line: &str) -> Result<Vec<String>, NoMemory> {
-    let mut words = Vec::new(alloc);
-    for word in line.split_whitespace() {
-        words.push(String::from_str(alloc, word)?)?;
-    }
-    Ok(words)
-}
-
 // What a call with the words of this line tells where the script is empty.
 fn tell_line(
     rt: &(impl Threads + Wait + Sync),
     alloc: Global,
     line: &str,
 ) -> Result<Told, NoMemory> {
-    let words = parted(alloc, line)?;
+    let words = words_in(alloc, line)?;
     tell_words(rt, alloc, &words, &[])
 }
 
@@ -303,20 +296,25 @@ fn a_say_that_fails_ends_the_run(rt: HostRuntime) -> Result<(), Fail> {
     Ok(())
 }
 
-// Which puts fail, and how a run ends then: its code and its sector.
-fn tell_putless(
+// What a run of a script tells of which a get and a put fail, by their numbers from 1; 0 is none.
+fn tell_faulty(
     rt: &(impl Threads + Wait + Sync),
     alloc: Global,
-    failing: u64,
+    script: &str,
+    get: u64,
+    put: u64,
 ) -> Result<Told, NoMemory> {
     let mut files = MemFiles::new(alloc);
-    files.put_file("s", "0 mount\n0 create /a\n0 sync\n".as_bytes())?;
+    files.put_file("s", script.as_bytes())?;
     let words = words_of(alloc, &["run", "s"])?;
-    let puts = vec![in alloc; failing]?;
-    let out = FaultyOutside::new(alloc, Vec::new(alloc), puts, Vec::new(alloc));
+    let gets = vec![in alloc; get]?;
+    let puts = vec![in alloc; put]?;
+    let out = FaultyOutside::new(alloc, gets, puts, Vec::new(alloc));
     let (status, out) = call(rt, alloc, &words, &mut files, out);
     told_by(alloc, status, out.acts())
 }
+
+static FAULTY: &str = "0 mount\n0 create /a\n0 sync\n";
 
 // Which put of the opening fails, and its sector.
 static UNOPENED: [(u64, u64); 3] = [(1, 10_737_418_240), (2, 4_294_967_296), (3, 0)];
@@ -329,7 +327,7 @@ fn is_unopened(told: &Told, sector: u64) -> bool {
 #[test]
 fn a_put_that_fails_in_the_opening_ends_the_run(rt: HostRuntime) -> Result<(), Fail> {
     for (failing, sector) in &UNOPENED {
-        let told = tell_putless(&rt, rt.alloc(), *failing)?;
+        let told = tell_faulty(&rt, rt.alloc(), FAULTY, 0, *failing)?;
         assert!(rt; is_unopened(&told, *sector), "put {failing}");
     }
     Ok(())
@@ -338,12 +336,28 @@ fn a_put_that_fails_in_the_opening_ends_the_run(rt: HostRuntime) -> Result<(), F
 // A put of a server that fails ends that server's mount, and the run goes on.
 #[test]
 fn a_put_that_fails_ends_its_mount(rt: HostRuntime) -> Result<(), Fail> {
-    let told = tell_putless(&rt, rt.alloc(), 4)?;
+    let told = tell_faulty(&rt, rt.alloc(), FAULTY, 0, 4)?;
     assert!(rt;
         says(
             &told,
             "1 0 mounted\n! dead 0\n2 0 io\n3 0 down\n! recovering 0 by -\n! recovered 0 keeps 0.0\n= / dir 0\n! end\n"
         )
     );
+    Ok(())
+}
+
+// So does a get of it, though nothing of it is lost.
+#[test]
+fn a_get_that_fails_ends_its_mount(rt: HostRuntime) -> Result<(), Fail> {
+    let told = tell_faulty(&rt, rt.alloc(), FAULTY, 1, 0)?;
+    assert!(rt; says(&told, "1 0 io\n2 0 down\n3 0 down\n= / dir 0\n! end\n"));
+    Ok(())
+}
+
+// Where the host's first get fails, as it reads the tree, nothing is said.
+#[test]
+fn a_get_of_the_host_that_fails_ends_the_run(rt: HostRuntime) -> Result<(), Fail> {
+    let told = tell_faulty(&rt, rt.alloc(), "", 1, 0)?;
+    assert!(rt; is_unopened(&told, 10_737_418_240));
     Ok(())
 }

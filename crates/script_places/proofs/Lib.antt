@@ -1,3 +1,4 @@
 pub mod Ascending
 pub mod Marking
 pub mod Placing
+pub mod TicksPassed

@@ -6,6 +6,7 @@ mod marks;
 mod order;
 mod places;
 mod scan;
+mod ticks;
 
 pub use order::{ascends, read_scripts_ascend};
 pub use places::Places;

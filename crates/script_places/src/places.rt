@@ -5,10 +5,11 @@ ghost use Rattle.std.specs.Option.{option_copied};
 ghost use Rattle.core_definitions.specs.Scripts as words;
 ghost use Rattle.core_definitions.specs.Scripts.{host_party, next_line};
 ghost use Rattle.world_definitions.specs.Worlds.{marks_of};
-ghost use Rattle.script_places.specs.Placed.{IsMarked, ascends, is_unanswered, placed_first};
+ghost use Rattle.script_places.specs.Placed.{IsMarked, ascends, is_unanswered, placed_first, ticks_known};
 
 use crate::marks::{is_marked, mark, unmarked};
 use crate::scan::{first_places, next_place, open_place, place_of};
+use crate::ticks::ticks_by_number;
 use frang_base::{Line, NoMemory, Script, ServerId};
 use std::alloc::Global;
 use std::marker::Model;
@@ -23,16 +24,18 @@ pub struct Places {
     // Of each party the place of its next line, and the place of the first line that isn't answered.
     next: Vec<usize>,
     first: usize,
+    // By number, the ticks that the lines before let pass.
+    ticks: Vec<u64>,
 }
 
 impl Model for Places {
-    ghost use Rattle.script_places.specs.Placed.{IsPlaced, Placed};
+    ghost use Rattle.script_places.specs.Placed.{AreTicks, IsPlaced, Placed};
 
     ghost Value = { Placed };
 
     ghost view = { λ places. record { script = places.script; answered = places.answered.items; passed = places.passed.items } };
 
-    ghost invariant = { λ places. IsPlaced places.script places.answered.items places.passed.items places.next.items places.first };
+    ghost invariant = { λ places. IsPlaced places.script places.answered.items places.passed.items places.next.items places.first × AreTicks places.script places.ticks.items };
 }
 
 impl Places {
@@ -44,12 +47,14 @@ impl Places {
         let answered = unmarked(alloc, script.as_slice())?;
         let passed = unmarked(alloc, script.as_slice())?;
         let next = first_places(alloc, script.as_slice())?;
+        let ticks = ticks_by_number(alloc, script.as_slice())?;
         Ok(Places {
             script,
             answered,
             passed,
             next,
             first: 0,
+            ticks,
         })
     }
 
@@ -67,6 +72,13 @@ impl Places {
         ensures ascending { IsTrue (ascends self.now.script) }
     {
         self.script.get(place_of(&self.next, who))
+    }
+
+    /// The ticks that the lines before a number let pass, or the greatest number where they are more. `None` exactly where the number is above each line's.
+    pub fn ticks_before(&self, number: u32) -> Option<u64>
+        ensures { result ≡ ticks_known self.now.script number }
+    {
+        self.ticks.get(number as usize).copied()
     }
 
     // The first line that isn't answered.

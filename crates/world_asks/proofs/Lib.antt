@@ -1,4 +1,3 @@
-pub mod TicksBefore
 pub mod Giving
 pub mod Places
 pub mod UnreadSectors

@@ -55,9 +55,7 @@ fn plan_of(
     ensures { IfOk result (IsPlanOf (core_at world.now).setting under.now.under operation.now server.now.server.cache) }
 {
     let number = under.number();
-    // The lines of the script ascend.
-    let _next = world.places().next(ServerId::HOST);
-    let when = time_of(world.places().script().as_slice(), world.run(), number)?;
+    let when = time_of(world.places(), world.run(), number)?;
     let line = LineToPlan {
         operation,
         number: operation_number(world.run(), number),

@@ -31,7 +31,7 @@ use Rattle.world_definitions.specs.Worlds.{host_of}
 use Rattle.world_parties.specs.States.{IsRecovery, issued_at, issued_in, recovering_by, recovery_in, server_of}
 use Rattle.world_state.specs.States.{IsKept, State, core_at, flies_by}
 use Rattle.world_list.specs.Going.{IsParty}
-use Rattle.world_list.specs.Issuing.{server_sectors}
+use Rattle.world_list.specs.Issuing.{AreCandidates, server_sectors}
 use Rattle.world_list.specs.Wanting.{Joins, SectorSet, dirty_sectors, kept_sectors, log_sectors, rescue_sectors, written_of}
 use Rattle.world_list.proofs.RecoveryWants.{rules_are, writes_are_wanted}
 use Rattle.world_list.proofs.Entries.{entries_ascend, of_entries}
@@ -238,3 +238,11 @@ module _ (s : State) (a sector : ℕ) (kept : IsKept s) (going : s.over ≡ fals
   issued_joined none servers all empty first second =
       second sector ∙ ap (λ b. b || member sector (rescue_sectors (recovering_by s.parties a))) (first sector ∙ ap (λ (es : SectorSet). is_some (value_at es sector) || member sector (server_sectors s a)) empty)
       ∙ issued_among
+
+no_sectors_ascend : Ascend {V = Unit {0}} []
+unfolding IsStrictlySortedBy
+no_sectors_ascend = tt
+
+-- who may issue none has no candidates
+pub none_wanted : (s : State) (a : ℕ) → ((sector : ℕ) → may_issue (core_at s) a sector (writes (core_at s) a) ≡ false) → AreCandidates s a []
+none_wanted s a none = record { ordered = no_sectors_ascend; all = λ sector may. absurd (false≢true (sym (none sector) ∙ may)) }

@@ -1,14 +1,19 @@
 // The sectors of which a party may issue a write, and maybe others.
-ghost use Rattle.std.specs.Prelude.{◌≡◌, IfOk, OnOk};
+ghost use Rattle.std.specs.Prelude.{◌≡◌, ℕ, IfOk, OnOk, true, false};
+ghost use Rattle.core_definitions.specs.Cores.{writes};
+ghost use Rattle.core_definitions.specs.WriteGuards.{may_issue};
 ghost use Rattle.world_list.specs.Going.{IsGoing, IsParty};
 ghost use Rattle.world_list.specs.Issuing.{AreCandidates, server_sectors};
 ghost use Rattle.world_list.specs.Wanting.{Joins, rescue_sectors};
 ghost use Rattle.world_parties.specs.States.{IsRecovery, recovering_by, recovery_in, servers_at};
+ghost use Rattle.world_state.specs.States.{core_at};
 
+use crate::asked::asked;
 use crate::gathering::{join_kept, join_rescues};
 use frang_base::{NoMemory, ServerId};
 use ordered_map::OrderedMap;
 use std::alloc::Global;
+use world_asks::host_next_issue;
 use world_parties::is_server;
 use world_state::World;
 
@@ -44,12 +49,21 @@ fn join_server(
     }
 }
 
-/// The candidates of a party. Its one refusal is want of memory.
-pub(crate) fn candidates(
-    alloc: Global,
-    world: &World,
-    a: ServerId,
-) -> Result<OrderedMap<u64, ()>, NoMemory>
+// Whether a party may issue no write.
+fn is_idle(world: &World, a: ServerId) -> bool
+    requires going { IsGoing world.now }
+    requires party { IsParty a.0 }
+    ensures { result ≡ true → (sector : ℕ) → may_issue (core_at world.now) a.0 sector (writes (core_at world.now) a.0) ≡ false }
+{
+    if is_server(a) {
+        asked(world, a).next_issue().is_none()
+    } else {
+        host_next_issue(world).is_none()
+    }
+}
+
+// All that it keeps and that its recovery wants written.
+fn gathered(alloc: Global, world: &World, a: ServerId) -> Result<OrderedMap<u64, ()>, NoMemory>
     requires going { IsGoing world.now }
     requires party { IsParty a.0 }
     ensures { IfOk result (λ sectors. AreCandidates world.now a.0 sectors.entries) }
@@ -62,4 +76,20 @@ pub(crate) fn candidates(
     // That they ascend is known from here on.
     let _count = sectors.count();
     Ok(sectors)
+}
+
+/// The candidates of a party, none where it may issue no write, so that what is cached is gone through only where it may issue one. Its one refusal is want of memory.
+pub(crate) fn candidates(
+    alloc: Global,
+    world: &World,
+    a: ServerId,
+) -> Result<OrderedMap<u64, ()>, NoMemory>
+    requires going { IsGoing world.now }
+    requires party { IsParty a.0 }
+    ensures { IfOk result (λ sectors. AreCandidates world.now a.0 sectors.entries) }
+{
+    if is_idle(world, a) {
+        return Ok(OrderedMap::new(alloc));
+    }
+    gathered(alloc, world, a)
 }

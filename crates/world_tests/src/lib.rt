@@ -1,6 +1,10 @@
-//! Tests of what the world of several servers is made of as code: the places of its parties in a script. It holds nothing else, so that no crate with proofs is
-//! proved once more for its tests.
+//! Tests of the world of several servers as code: the places of its parties in a script, whole runs by the list of its events, and the next event beside that list. It holds nothing else, so
+//! that no crate with proofs is proved once more for its tests.
 #![tactic(auto)]
 
 #[cfg(test)]
+mod driving;
+#[cfg(test)]
 mod places;
+#[cfg(test)]
+mod runs;

@@ -1,5 +1,6 @@
-// The places of two servers and the host in a script of eight lines.
+// The places of two servers and the host in a script of eight lines, and the ticks that pass before each number of another.
 use frang_base::{HostOp, Line, NoMemory, Op, Script, ServerId, What};
+use script_lang::read_script;
 use script_places::{Places, ascends};
 use std::alloc::Global;
 use std::process::Abort;
@@ -144,5 +145,34 @@ fn parties_go_through_a_script(rt: HostRuntime) -> Result<(), Fail> {
     assert!(rt; in_order);
     let mut places = Places::new(rt.alloc(), script)?;
     expect(&rt, &mut places, &STEPS);
+    Ok(())
+}
+
+// Its fourth line is none, and keeps its number.
+static TICKING: &[u8] = b"0 mount\ntick 40\n0 sync\n\ntick 7\n1 mount\n";
+
+// By number, the ticks that the lines before let pass. The last two are above each line's.
+static TICKS: [(u32, Option<u64>); 9] = [
+    (0, Some(0)),
+    (1, Some(0)),
+    (2, Some(0)),
+    (3, Some(40)),
+    (4, Some(40)),
+    (5, Some(40)),
+    (6, Some(47)),
+    (7, None),
+    (u32::MAX, None),
+];
+
+#[test]
+fn ticks_pass_before_a_number(rt: HostRuntime) -> Result<(), Fail> {
+    let script = read_script(rt.alloc(), TICKING).map_err(|_| NoMemory)?;
+    let in_order = ascends(script.as_slice());
+    assert!(rt; in_order);
+    let places = Places::new(rt.alloc(), script)?;
+    for (number, ticks) in &TICKS {
+        let passed = places.ticks_before(*number);
+        assert!(rt; passed == *ticks, "number {number}");
+    }
     Ok(())
 }

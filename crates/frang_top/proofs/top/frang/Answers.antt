@@ -14,3 +14,8 @@ pub returns-clause-whole : goal.returns-clause-whole
 returns-clause-whole g c =
     subst (IsCompleteOnImage (map string_bytes c.args.words.now) (g.F.Files.state c.args.files.now) (g.F.Files.state c.answer-outcome.new.files) (g.O.Outside.state c.args.out) (g.O.Outside.state c.answer-outcome.result.1)) (sym c.status_of.ensures)
     (complete_on_image (g.F.Files.state c.args.files.now) (g.F.Files.state c.answer-outcome.new.files) (g.O.Outside.state c.args.out) (g.O.Outside.state c.answer-outcome.result.1) (map string_bytes c.args.words.now) c.answer-outcome.result.0 c.answer-outcome.ensures.done)
+
+pub returns-clause-lawful : goal.returns-clause-lawful
+returns-clause-lawful g c =
+    λ bytes script segments is.
+    c.what_is_left_is_lawful.ensures script segments (g.O.Outside.state c.args.out) (g.O.Outside.state c.answer-outcome.result.1) (c.read_scripts_are_numbered.ensures.numbered bytes script is)

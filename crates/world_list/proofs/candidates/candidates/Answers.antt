@@ -1,9 +1,11 @@
--- They ascend, and each sector that may be issued has joined.
-use Rattle.world_list.proofs.WritesAmong.{issued_joined}
+-- Who may issue none has no candidates.
+use Rattle.std.proofs.Common.{sym, subst}
+use Rattle.world_list.specs.Issuing.{AreCandidates}
+use Rattle.world_list.specs.Wanting.{SectorSet}
+use Rattle.world_list.proofs.WritesAmong.{none_wanted}
 use Rattle.world_list.proofs.candidates.candidates.Goals as goal
 
-pub returns : goal.returns
-returns c = record {
-  ordered = c.count-count.ensures.ordered;
-  all = λ sector may. issued_joined c.args.world.now c.args.a.0 sector c.is_over-over.ensures.kept c.requires.going.going c.requires.party c.join_recovery.ensures.fits c.join_recovery.ensures.core may c.new-sectors.result.entries c.join_server.new.sectors.entries c.join_recovery.new.sectors.entries c.new-sectors.ensures.entries c.in_ok-join_server.ensures c.in_ok-join_recovery.ensures.joins;
-}
+pub returns-then-is_idle : goal.returns-then-is_idle
+returns-then-is_idle c =
+    subst (λ (sectors : SectorSet). AreCandidates c.args.world.now c.args.a.0 sectors) (sym c.new.ensures.entries)
+    (none_wanted c.args.world.now c.args.a.0 (c.is_idle.ensures c.if-is_idle.true))

@@ -10,12 +10,12 @@ use Rattle.script_places.proofs.places.Places.answer.Goals as goal
 pub next_place-requires : goal.next_place-requires
 next_place-requires c =
     let who = c.args.who.0 in
-    let is = c.place_of-at.ensures.place ∙ ap (λ xs. get_or xs who 0) c.deref.ensures.value ∙ c.self.invariant.each who c.place_of-at.ensures.party in
+    let is = c.place_of-at.ensures.place ∙ ap (λ xs. get_or xs who 0) c.deref.ensures.value ∙ c.self.invariant.0.each who c.place_of-at.ensures.party in
     omega (arith, is, position_most (is_next_of (marks_of c.self.inside.answered.items) who) c.self.inside.script, ap length c.as_slice-lines.ensures)
 
 pub open_place-self-inside-requires : goal.open_place-self-inside-requires
 open_place-self-inside-requires c =
-    omega (arith, c.self.invariant.start, position_most (is_unanswered (marks_of c.self.inside.answered.items)) c.self.inside.script, ap length c.as_slice-lines.ensures)
+    omega (arith, c.self.invariant.0.start, position_most (is_unanswered (marks_of c.self.inside.answered.items)) c.self.inside.script, ap length c.as_slice-lines.ensures)
 
 pub invariant_of-self : goal.invariant_of-self
 invariant_of-self c =
@@ -26,8 +26,10 @@ invariant_of-self c =
     let first = c.self.inside.first in
     let old = c.args.self.now in
     let found = some_and (next_line old.script (marks_of old.answered) who) _ c.requires in
-    let at = c.place_of-at.ensures.place ∙ ap (λ xs. get_or xs who 0) c.deref.ensures.value in
-    placed_after script answered c.mark.new.marks.items c.self.inside.passed.items next first who c.args.number c.next_place.result c.open_place-self-inside.result found.0 c.self.invariant c.place_of-at.ensures.party
-    (ap (λ p. next_line p.script (marks_of p.answered) who) c.self.view_is ∙ found.1) found.2 c.mark.ensures
-    (c.next_place.ensures ∙ (λ i. at i + position_or_len (is_next_of (marks_of (c.deref-2.ensures.value i)) who) (drop (at i) (c.as_slice-lines.ensures i))))
-    (c.open_place-self-inside.ensures ∙ (λ i. first + position_or_len (is_unanswered (marks_of (c.deref-3.ensures.value i))) (drop first (c.as_slice-lines.ensures i))))
+    let at = c.place_of-at.ensures.place ∙ ap (λ xs. get_or xs who 0) c.deref.ensures.value in (
+      placed_after script answered c.mark.new.marks.items c.self.inside.passed.items next first who c.args.number c.next_place.result c.open_place-self-inside.result found.0 c.self.invariant.0 c.place_of-at.ensures.party
+          (ap (λ p. next_line p.script (marks_of p.answered) who) c.self.view_is ∙ found.1) found.2 c.mark.ensures
+          (c.next_place.ensures ∙ (λ i. at i + position_or_len (is_next_of (marks_of (c.deref-2.ensures.value i)) who) (drop (at i) (c.as_slice-lines.ensures i))))
+          (c.open_place-self-inside.ensures ∙ (λ i. first + position_or_len (is_unanswered (marks_of (c.deref-3.ensures.value i))) (drop first (c.as_slice-lines.ensures i)))),
+      c.self.invariant.1,
+    )

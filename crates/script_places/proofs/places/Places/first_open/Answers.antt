@@ -10,4 +10,4 @@ use Rattle.script_places.proofs.places.Places.first_open.Goals as goal
 pub returns-clause-line : goal.returns-clause-line
 returns-clause-line c =
     let script = c.self.inside.script in
-    c.get.ensures ∙ ap (slice_get script) c.self.invariant.start ∙ sym (find_at (is_unanswered (marks_of c.self.inside.answered.items)) script) ∙ ap (λ p. find (is_unanswered (marks_of p.answered)) p.script) c.self.view_is
+    c.get.ensures ∙ ap (slice_get script) c.self.invariant.0.start ∙ sym (find_at (is_unanswered (marks_of c.self.inside.answered.items)) script) ∙ ap (λ p. find (is_unanswered (marks_of p.answered)) p.script) c.self.view_is

@@ -5,12 +5,14 @@ use Rattle.script_places.proofs.places.Places.pass.Goals as goal
 
 pub invariant_of-self : goal.invariant_of-self
 invariant_of-self c =
-    let was = c.self.invariant in
-    record {
-      ascending = was.ascending;
-      marked = was.marked;
-      passing = ap length c.mark.ensures ∙ length-set c.self.inside.passed.items c.args.number true ∙ was.passing;
-      long = was.long;
-      each = was.each;
-      start = was.start;
-    }
+    let was = c.self.invariant.0 in (
+      record {
+        ascending = was.ascending;
+        marked = was.marked;
+        passing = ap length c.mark.ensures ∙ length-set c.self.inside.passed.items c.args.number true ∙ was.passing;
+        long = was.long;
+        each = was.each;
+        start = was.start;
+      },
+      c.self.invariant.1,
+    )

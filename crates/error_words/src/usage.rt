@@ -1,0 +1,131 @@
+// What each command takes.
+use frang_base::limits::SEGMENTS_MAX;
+use script_definitions::number_within;
+
+// What a word or the value of an option may be.
+#[derive(Clone, Copy, PartialEq, Eq)]
+pub enum Kind {
+    Name,
+    Segments,
+    Order,
+    Log,
+}
+
+/// A word that a command takes, or the value of an option: its name, what it may be, and that in words.
+pub struct Place {
+    pub name: &'static str,
+    pub kind: Kind,
+    pub value: &'static str,
+}
+
+// Whether a word is a number of 64 bits without zeros before it.
+fn is_order(word: &str) -> bool {
+    let has_digits = word.as_bytes().iter().all(u8::is_ascii_digit);
+    has_digits && (word == "0" || !word.starts_with('0')) && word.parse::<u64>().is_ok()
+}
+
+impl Place {
+    /// Whether it takes this word.
+    pub fn takes(&self, word: &str) -> bool {
+        match self.kind {
+            Kind::Name => true,
+            Kind::Segments => number_within(word.as_bytes(), 1, SEGMENTS_MAX).is_some(),
+            Kind::Order => is_order(word),
+            Kind::Log => number_within(word.as_bytes(), 0, 255).is_some(),
+        }
+    }
+}
+
+/// An option, and its number among those of its command.
+pub struct OptionForm {
+    pub place: Place,
+    pub number: usize,
+}
+
+/// A command: its name, the words that it takes, and its options.
+pub struct Usage {
+    pub name: &'static str,
+    pub places: &'static [Place],
+    pub options: &'static [OptionForm],
+}
+
+impl Usage {
+    /// The option of this name.
+    pub fn option(&self, name: &str) -> Option<&'static OptionForm> {
+        self.options.iter().find(|form| form.place.name == name)
+    }
+}
+
+const IMAGE: Place = Place {
+    name: "IMAGE",
+    kind: Kind::Name,
+    value: "a file's name",
+};
+
+const SCRIPT: Place = Place {
+    name: "SCRIPT",
+    kind: Kind::Name,
+    value: "a file's name",
+};
+
+const SERVER: Place = Place {
+    name: "SERVER",
+    kind: Kind::Log,
+    value: "0 to 255",
+};
+
+const SEGMENTS: OptionForm = OptionForm {
+    place: Place {
+        name: "--segments",
+        kind: Kind::Segments,
+        value: "1 to 64",
+    },
+    number: 0,
+};
+
+const ORDER: OptionForm = OptionForm {
+    place: Place {
+        name: "--order",
+        kind: Kind::Order,
+        value: "0 to 18446744073709551615",
+    },
+    number: 1,
+};
+
+const SAVE: OptionForm = OptionForm {
+    place: Place {
+        name: "--save",
+        kind: Kind::Name,
+        value: "a file's name",
+    },
+    number: 0,
+};
+
+/// The commands, in the order in which the program tells of them.
+pub static USAGES: [Usage; 5] = [
+    Usage {
+        name: "run",
+        places: &[SCRIPT],
+        options: &[SEGMENTS, ORDER],
+    },
+    Usage {
+        name: "recover",
+        places: &[IMAGE],
+        options: &[SAVE],
+    },
+    Usage {
+        name: "tree",
+        places: &[IMAGE],
+        options: &[],
+    },
+    Usage {
+        name: "log",
+        places: &[IMAGE, SERVER],
+        options: &[],
+    },
+    Usage {
+        name: "fsck",
+        places: &[IMAGE],
+        options: &[],
+    },
+];
