@@ -180,6 +180,7 @@ commands = {
     "recover": [program, "recover", image],
     "recover with a save": [program, "recover", image, "--save", new],
     "log": [program, "log", image, "0"],
+    "an empty script run on it, with a save": [program, "run", os.devnull, "--order", "0", "--image", image, "--save", new],
 }
 
 

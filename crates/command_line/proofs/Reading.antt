@@ -7,7 +7,7 @@ use Rattle.clap.specs.Walk.{Held, Row, Rule, Step, Text, Waiting, Walk, after_fl
 use Rattle.clap.specs.Simple.{Shape, new_shape}
 use Rattle.clap.specs.Kinds.{Kinds, or_else}
 use Rattle.clap.specs.Faults.{defaults_fault, given_default_fault, level_fault, long_fault, other_fault, settle_fault, step_fault, turn_fault, walk_fault}
-use Rattle.command_words.specs.Given.{CommandOption, Segments, Save, Order, Given, Reading, given_after, given_by, option_read, value_in, with_place, word_read}
+use Rattle.command_words.specs.Given.{CommandOption, Segments, Image, Save, Order, Given, Reading, given_after, given_by, option_read, value_in, with_place, word_read}
 use Rattle.command_line.specs.Line.{given_in}
 use Rattle.command_line.proofs.Rows.{id_of, more, more_place, more_value, place_id}
 use Rattle.command_line.proofs.Looks.{IsPlain, Long, Look, ends, first_fails, has_fault, known, long, long_look, look, or_else_nothing, place_rule, plain, rules_of_words, short, short_fails, unknown, value_rule}
@@ -144,6 +144,7 @@ module _ (name : Text) where
   trailing_place rows none word = (refl, refl)
   trailing_place rows (place before) word = (refl, refl)
   trailing_place rows (value Segments before) word = (refl, refl)
+  trailing_place rows (value Image before) word = (refl, refl)
   trailing_place rows (value Save before) word = (refl, refl)
   trailing_place rows (value Order before) word = (refl, refl)
 
@@ -152,6 +153,7 @@ module _ (name : Text) where
   plain_place rows none word p = (rw (p.not_end, p.not_long, p.not_short) refl, rw (p.not_end, p.not_long, p.not_short) refl)
   plain_place rows (place before) word p = (rw (p.not_end, p.not_long, p.not_short) refl, rw (p.not_end, p.not_long, p.not_short) refl)
   plain_place rows (value Segments before) word p = (rw (p.not_end, p.not_long, p.not_short) refl, rw (p.not_end, p.not_long, p.not_short) refl)
+  plain_place rows (value Image before) word p = (rw (p.not_end, p.not_long, p.not_short) refl, rw (p.not_end, p.not_long, p.not_short) refl)
   plain_place rows (value Save before) word p = (rw (p.not_end, p.not_long, p.not_short) refl, rw (p.not_end, p.not_long, p.not_short) refl)
   plain_place rows (value Order before) word p = (rw (p.not_end, p.not_long, p.not_short) refl, rw (p.not_end, p.not_long, p.not_short) refl)
 
@@ -159,6 +161,7 @@ module _ (name : Text) where
   plain_value : (rows : List Row) (o : CommandOption) (word : Text) → IsPlain word → Passes (awaiting rows o) word (resting rows (value o word) false)
   unfolding walked
   plain_value rows Segments word p = (rw (p.not_end, p.not_long, p.not_short) refl, rw (p.not_end, p.not_long, p.not_short) refl)
+  plain_value rows Image word p = (rw (p.not_end, p.not_long, p.not_short) refl, rw (p.not_end, p.not_long, p.not_short) refl)
   plain_value rows Save word p = (rw (p.not_end, p.not_long, p.not_short) refl, rw (p.not_end, p.not_long, p.not_short) refl)
   plain_value rows Order word p = (rw (p.not_end, p.not_long, p.not_short) refl, rw (p.not_end, p.not_long, p.not_short) refl)
 
@@ -172,9 +175,11 @@ module _ (name : Text) where
   end_fails : (rows : List Row) (o : CommandOption) (rest : List Text) → gives (walk_at (awaiting rows o)) ((45 ∷ 45 ∷ []) ∷ rest) ≡ None
   unfolding walk_fault walked
   end_fails rows Segments [] = refl
+  end_fails rows Image [] = refl
   end_fails rows Save [] = refl
   end_fails rows Order [] = refl
   end_fails rows Segments (word ∷ rest) = refl
+  end_fails rows Image (word ∷ rest) = refl
   end_fails rows Save (word ∷ rest) = refl
   end_fails rows Order (word ∷ rest) = refl
 
@@ -215,8 +220,10 @@ module _ (name : Text) where
   known_turns rows (place before) word o (Some v) = (refl, refl)
   known_turns rows (value Segments before) word o None = (refl, refl)
   known_turns rows (value Segments before) word o (Some v) = (refl, refl)
+  known_turns rows (value Image before) word o None = (refl, refl)
   known_turns rows (value Save before) word o None = (refl, refl)
   known_turns rows (value Order before) word o None = (refl, refl)
+  known_turns rows (value Image before) word o (Some v) = (refl, refl)
   known_turns rows (value Save before) word o (Some v) = (refl, refl)
   known_turns rows (value Order before) word o (Some v) = (refl, refl)
 
@@ -237,8 +244,10 @@ module _ (name : Text) where
   unfilled_fails : (rows : List Row) (o next : CommandOption) (v : Option Text) → has_fault (long_fault rules_of_words false (Some (value_rule next)) v (held rows (Some (id_of o, [])))) ≡ true
   unfilled_fails rows Segments next None = refl
   unfilled_fails rows Segments next (Some v) = refl
+  unfilled_fails rows Image next None = refl
   unfilled_fails rows Save next None = refl
   unfilled_fails rows Order next None = refl
+  unfilled_fails rows Image next (Some v) = refl
   unfilled_fails rows Save next (Some v) = refl
   unfilled_fails rows Order next (Some v) = refl
 
@@ -314,9 +323,11 @@ module _ (name : Text) where
   come [] texts (resting rows none ended) = refl
   come [] texts (resting rows (place before) ended) = refl
   come [] texts (resting rows (value Segments before) ended) = refl
+  come [] texts (resting rows (value Image before) ended) = refl
   come [] texts (resting rows (value Save before) ended) = refl
   come [] texts (resting rows (value Order before) ended) = refl
   come [] texts (awaiting rows Segments) = refl
+  come [] texts (awaiting rows Image) = refl
   come [] texts (awaiting rows Save) = refl
   come [] texts (awaiting rows Order) = refl
   come (word ∷ rest) texts st = one_more st word rest (come rest texts.1) (turned st word texts.0)
@@ -328,19 +339,22 @@ module _ (name : Text) where
   no_defaults rows =
       let a = with_default rows place_rule in
       let b = with_default a (value_rule Segments) in
-      let d = with_default b (value_rule Save) in
+      let d = with_default b (value_rule Image) in
+      let e = with_default d (value_rule Save) in
       (λ i. or_else (empty_or (has_row place_id rows) (given_default_fault place_rule []) i)
       (or_else (empty_or (has_row (id_of Segments) a) (given_default_fault (value_rule Segments) []) i)
-      (or_else (empty_or (has_row (id_of Save) b) (given_default_fault (value_rule Save) []) i)
-      (or_else (empty_or (has_row (id_of Order) d) (given_default_fault (value_rule Order) []) i) []))))
+      (or_else (empty_or (has_row (id_of Image) b) (given_default_fault (value_rule Image) []) i)
+      (or_else (empty_or (has_row (id_of Save) d) (given_default_fault (value_rule Save) []) i)
+      (or_else (empty_or (has_row (id_of Order) e) (given_default_fault (value_rule Order) []) i) [])))))
 
   end_rows : (h : Held) → finished rules_of_words h ≡ (settled rules_of_words h).rows
   end_rows h =
       let rows = (settled rules_of_words h).rows in
       let a = with_default rows place_rule in
       let b = with_default a (value_rule Segments) in
-      let d = with_default b (value_rule Save) in
-      either (has_row (id_of Order) d) d ∙ either (has_row (id_of Save) b) b ∙ either (has_row (id_of Segments) a) a ∙ either (has_row place_id rows) rows
+      let d = with_default b (value_rule Image) in
+      let e = with_default d (value_rule Save) in
+      either (has_row (id_of Order) e) e ∙ either (has_row (id_of Save) d) d ∙ either (has_row (id_of Image) b) b ∙ either (has_row (id_of Segments) a) a ∙ either (has_row place_id rows) rows
 
   level_is : (words : List Text) → level_fault s [] nothing_held words false [] ≡ faults (walk_from nothing_held) words
   level_is words =

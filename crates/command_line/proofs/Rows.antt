@@ -9,7 +9,7 @@ use Rattle.clap.specs.declared.parser.matches.Found.{Found}
 use Rattle.clap.proofs.WalkLemmas.{raw_values-rows}
 use Rattle.clap.specs.declared.builder.value_parser.Reading.TheVariants.{AsWritten}
 use Rattle.clap.specs.declared.parser.matches.ValueSource.TheVariants.{CommandLine}
-use Rattle.command_words.specs.Given.{CommandOption, Segments, Save, Order, with_place, with_value}
+use Rattle.command_words.specs.Given.{CommandOption, Segments, Image, Save, Order, with_place, with_value}
 use Rattle.command_line.specs.Line.{given_in, texts_in}
 use Rattle.command_words.specs.Views.{texts_of}
 
@@ -45,6 +45,7 @@ place_id = codes "places"
 
 abbrev pub id_of : CommandOption → Text
 id_of Segments = codes "segments"
+id_of Image = codes "image"
 id_of Save = codes "save"
 id_of Order = codes "order"
 
@@ -52,6 +53,7 @@ pub more_place : (value : Text) (rows : List Row) → given_in (more place_id va
 more_place value rows = λ i. record {
   places = same place_id value rows refl i;
   segments = other place_id (id_of Segments) value rows refl i;
+  image = other place_id (id_of Image) value rows refl i;
   save = other place_id (id_of Save) value rows refl i;
   order = other place_id (id_of Order) value rows refl i;
 }
@@ -60,18 +62,28 @@ pub more_value : (o : CommandOption) (value : Text) (rows : List Row) → given_
 more_value Segments value rows = λ i. record {
   places = other (id_of Segments) place_id value rows refl i;
   segments = same (id_of Segments) value rows refl i;
+  image = other (id_of Segments) (id_of Image) value rows refl i;
   save = other (id_of Segments) (id_of Save) value rows refl i;
   order = other (id_of Segments) (id_of Order) value rows refl i;
+}
+more_value Image value rows = λ i. record {
+  places = other (id_of Image) place_id value rows refl i;
+  segments = other (id_of Image) (id_of Segments) value rows refl i;
+  image = same (id_of Image) value rows refl i;
+  save = other (id_of Image) (id_of Save) value rows refl i;
+  order = other (id_of Image) (id_of Order) value rows refl i;
 }
 more_value Save value rows = λ i. record {
   places = other (id_of Save) place_id value rows refl i;
   segments = other (id_of Save) (id_of Segments) value rows refl i;
+  image = other (id_of Save) (id_of Image) value rows refl i;
   save = same (id_of Save) value rows refl i;
   order = other (id_of Save) (id_of Order) value rows refl i;
 }
 more_value Order value rows = λ i. record {
   places = other (id_of Order) place_id value rows refl i;
   segments = other (id_of Order) (id_of Segments) value rows refl i;
+  image = other (id_of Order) (id_of Image) value rows refl i;
   save = other (id_of Order) (id_of Save) value rows refl i;
   order = same (id_of Order) value rows refl i;
 }

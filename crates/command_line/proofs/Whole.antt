@@ -65,7 +65,10 @@ named word = elim (decide (codes "run") word) [
         | inl is ↦ subst Named is (known (codes "log") refl refl refl)
         | inr log ↦ elim (decide (codes "fsck") word) [
           | inl is ↦ subst Named is (known (codes "fsck") refl refl refl)
-          | inr fsck ↦ other word (rw (run.0, recover.0, tree.0, log.0, fsck.0) refl) (λ given. rw (run.1, recover.1, tree.1, log.1, fsck.1) refl)
+          | inr fsck ↦ elim (decide (codes "soak") word) [
+            | inl is ↦ subst Named is (known (codes "soak") refl refl refl)
+            | inr soak ↦ other word (rw (run.0, recover.0, tree.0, log.0, fsck.0, soak.0) refl) (λ given. rw (run.1, soak.1, recover.1, tree.1, log.1, fsck.1) refl)
+          ]
         ]
       ]
     ]

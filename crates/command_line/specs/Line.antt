@@ -15,7 +15,9 @@ option_rule name = record (many_rule name) { long = Some name }
 
 -- what may follow a command's name
 abbrev pub words_app : Text → App
-words_app name = with_rule (with_rule (with_rule (with_rule (new_app name) (many_rule (codes "places"))) (option_rule (codes "segments"))) (option_rule (codes "save"))) (option_rule (codes "order"))
+words_app name =
+    with_rule (with_rule (with_rule (with_rule (with_rule (new_app name) (many_rule (codes "places"))) (option_rule (codes "segments"))) (option_rule (codes "image"))) (option_rule (codes "save")))
+    (option_rule (codes "order"))
 
 -- the line without its commands: there are no words but ours, so no help and no name of the program
 abbrev pub bare_line : App
@@ -33,7 +35,9 @@ abbrev pub with_command : App → Text → App
 with_command line name = with_subcommand line (words_app name).top
 
 abbrev pub line_app : App
-line_app = with_command (with_command (with_command (with_command (with_command bare_line (codes "run")) (codes "recover")) (codes "tree")) (codes "log")) (codes "fsck")
+line_app =
+    with_command (with_command (with_command (with_command (with_command (with_command bare_line (codes "run")) (codes "recover")) (codes "tree")) (codes "log")) (codes "fsck"))
+    (codes "soak")
 
 -- what a command's matches give
 abbrev pub texts_in : Text → List Row → List Text
@@ -43,6 +47,7 @@ abbrev pub given_in : List Row → Given
 given_in rows = record {
   places = texts_in (codes "places") rows;
   segments = texts_in (codes "segments") rows;
+  image = texts_in (codes "image") rows;
   save = texts_in (codes "save") rows;
   order = texts_in (codes "order") rows;
 }

@@ -18,10 +18,14 @@ fn command_named<'a>(alloc: Global, name: &'a str) -> Result<Command<'a>, AllocE
         .long("segments")
         .action(ArgAction::Append);
     let with_segments = with_places.arg(segments)?;
+    let image = Arg::new(alloc, "image")
+        .long("image")
+        .action(ArgAction::Append);
+    let with_image = with_segments.arg(image)?;
     let save = Arg::new(alloc, "save")
         .long("save")
         .action(ArgAction::Append);
-    let with_save = with_segments.arg(save)?;
+    let with_save = with_image.arg(save)?;
     let order = Arg::new(alloc, "order")
         .long("order")
         .action(ArgAction::Append);
@@ -52,5 +56,6 @@ pub fn command_line<'a>(alloc: Global) -> Result<Command<'a>, AllocError>
     let recover = with_command(alloc, run, "recover")?;
     let tree = with_command(alloc, recover, "tree")?;
     let log = with_command(alloc, tree, "log")?;
-    with_command(alloc, log, "fsck")
+    let fsck = with_command(alloc, log, "fsck")?;
+    with_command(alloc, fsck, "soak")
 }

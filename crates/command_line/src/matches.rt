@@ -14,6 +14,7 @@ fn given_in<'m, 'a>(matches: &'m ArgMatches<'a>) -> GivenWords<'m, 'a>
     GivenWords {
         places: matches.get_strs("places"),
         segments: matches.get_strs("segments"),
+        image: matches.get_strs("image"),
         save: matches.get_strs("save"),
         order: matches.get_strs("order"),
     }

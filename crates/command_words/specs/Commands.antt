@@ -5,10 +5,16 @@ use Rattle.frang_base.specs.declared.limits.TheConstants.{SEGMENTS_DEFAULT, SEGM
 use Rattle.script_definitions.specs.Numerals.{number_in}
 use Rattle.command_words.specs.Given.{Given, given_by}
 
--- to run a script, by its name, on a fresh disk of so many segments; where an order is given, in this order of events
+-- a fresh disk of so many segments, or that of an image, by its name
+pub data AskedDisk : Type 0 where
+  Fresh : (segments : ℕ) → AskedDisk
+  Image : (image : List ℕ) → AskedDisk
+
+-- to run a script, by its name, on a disk, and to save the disk where a name is given; where an order is given, in this order of events
 pub record Asks : Type 0 where
   pub script : List ℕ
-  pub segments : ℕ
+  pub disk : AskedDisk
+  pub save : Option (List ℕ)
   pub order : Option ℕ
 
 -- to recover an image, by its name, and to save it where a name is given; to tell its tree; to tell a log of it; to tell the report of its check
@@ -18,9 +24,11 @@ pub data ImageAsks : Type 0 where
   Log : (image : List ℕ) (server : ℕ) → ImageAsks
   Fsck : (image : List ℕ) → ImageAsks
 
+-- to run a script, to do a command on an image, or to run the script of a soak, by its number
 pub data Asked : Type 0 where
   Run : (asks : Asks) → Asked
   OnImage : (asks : ImageAsks) → Asked
+  Soak : (number : ℕ) → Asked
 
 -- the text of a list of one
 abbrev pub only : List (List ℕ) → Option (List ℕ)
@@ -51,26 +59,41 @@ abbrev pub segments_in : Option (List ℕ) → Option ℕ
 segments_in None = Some SEGMENTS_DEFAULT
 segments_in (Some value) = number_in 1 SEGMENTS_MAX value
 
+-- the disk of the image that is asked for, else a fresh one of the segments that are asked for; none where both are given
+abbrev pub disk_in : Option (List ℕ) → Option (List ℕ) → Option AskedDisk
+disk_in segments None = option_map (λ size. Fresh size) (segments_in segments)
+disk_in None (Some image) = Some (Image image)
+disk_in (Some segments) (Some image) = None
+
+-- a number of 64 bits
+abbrev pub wide_number : List ℕ → Option ℕ
+wide_number word = number_in 0 (2 ^ 64 - 1) word
+
 -- the order that is asked for, where one is
 abbrev pub order_in : Option (List ℕ) → Option (Option ℕ)
 order_in None = Some None
-order_in (Some value) = option_map (λ order. Some order) (number_in 0 (2 ^ 64 - 1) value)
+order_in (Some value) = option_map (λ order. Some order) (wide_number value)
 
--- run SCRIPT [--segments S] [--order N]
+abbrev pub disk_by : Given → Option AskedDisk
+disk_by given = option_and_then (λ segments. option_and_then (λ image. disk_in segments image) (at_most_one given.image)) (at_most_one given.segments)
+
+-- run SCRIPT [--segments S | --image FILE] [--save FILE] [--order N]
 abbrev pub run_by : Given → Option Asks
 run_by given =
     option_and_then
-    (λ script. option_and_then (λ segments. option_map (λ order. record { script = script; segments = segments; order = order }) (option_and_then order_in (at_most_one given.order)))
-    (option_and_then segments_in (at_most_one given.segments)))
-    (unless given.save (only given.places))
+    (λ script. option_and_then
+    (λ disk. option_and_then (λ save. option_map (λ order. record { script = script; disk = disk; save = save; order = order }) (option_and_then order_in (at_most_one given.order)))
+    (at_most_one given.save))
+    (disk_by given))
+    (only given.places)
 
 -- recover IMAGE [--save FILE]
 abbrev pub recover_by : Given → Option ImageAsks
-recover_by given = option_and_then (λ image. option_map (λ save. Recover image save) (at_most_one given.save)) (unless given.order (unless given.segments (only given.places)))
+recover_by given = option_and_then (λ image. option_map (λ save. Recover image save) (at_most_one given.save)) (unless given.order (unless given.image (unless given.segments (only given.places))))
 
 -- a word, where no option is given
 abbrev pub bare : Given → Option (List ℕ) → Option (List ℕ)
-bare given word = unless given.order (unless given.save (unless given.segments word))
+bare given word = unless given.order (unless given.save (unless given.image (unless given.segments word)))
 
 -- tree IMAGE
 abbrev pub tree_by : Given → Option ImageAsks
@@ -86,6 +109,10 @@ log_by given =
 abbrev pub fsck_by : Given → Option ImageAsks
 fsck_by given = option_map (λ image. Fsck image) (bare given (only given.places))
 
+-- soak N
+abbrev pub soak_by : Given → Option ℕ
+soak_by given = option_and_then wide_number (bare given (only given.places))
+
 -- a command by its name
 abbrev pub image_asked : List ℕ → Given → Option ImageAsks
 image_asked name given =
@@ -96,7 +123,10 @@ image_asked name given =
     else None)))
 
 abbrev pub asked_with : List ℕ → Given → Option Asked
-asked_with name given = if bytes_eq name (codes "run") then option_map (λ asks. Run asks) (run_by given) else option_map (λ asks. OnImage asks) (image_asked name given)
+asked_with name given =
+    if bytes_eq name (codes "run") then option_map (λ asks. Run asks) (run_by given)
+    else (if bytes_eq name (codes "soak") then option_map (λ number. Soak number) (soak_by given)
+    else option_map (λ asks. OnImage asks) (image_asked name given))
 
 -- what the words after the program's name ask, if they are a command
 abbrev pub asked_by : List (List ℕ) → Option Asked

@@ -1,6 +1,6 @@
 -- What some words ask.
 use Rattle.std.specs.Prelude.{◌≡◌, ◌-◌, ◌^◌, Some, None, [], ◌∷◌, codes, refl}
-use Rattle.command_words.specs.Commands.{OnImage, Run, Recover, Tree, Log, Fsck, asked_by}
+use Rattle.command_words.specs.Commands.{Fresh, Image, OnImage, Run, Soak, Recover, Tree, Log, Fsck, asked_by}
 
 -- a name and its option, which may stand before it
 with_a_save : asked_by (codes "recover" ∷ codes "--save" ∷ codes "new" ∷ codes "img" ∷ []) ≡ Some (OnImage (Recover (codes "img") (Some (codes "new"))))
@@ -29,7 +29,7 @@ given_twice : asked_by (codes "run" ∷ codes "s" ∷ codes "--segments=2" ∷ c
 given_twice = refl
 
 -- the last order, and one past it; an order has no sign and no leading zero, and is a run's
-last_order : asked_by (codes "run" ∷ codes "--order" ∷ codes "18446744073709551615" ∷ codes "s" ∷ []) ≡ Some (Run (record { script = codes "s"; segments = 16; order = Some (2 ^ 64 - 1) }))
+last_order : asked_by (codes "run" ∷ codes "--order" ∷ codes "18446744073709551615" ∷ codes "s" ∷ []) ≡ Some (Run (record { script = codes "s"; disk = Fresh 16; save = None; order = Some (2 ^ 64 - 1) }))
 last_order = refl
 
 no_order : asked_by (codes "run" ∷ codes "s" ∷ codes "--order=18446744073709551616" ∷ []) ≡ None
@@ -46,6 +46,33 @@ ordered_twice = refl
 
 an_ordered_tree : asked_by (codes "tree" ∷ codes "img" ∷ codes "--order=1" ∷ []) ≡ None
 an_ordered_tree = refl
+
+-- a run on an image, which has its own segments, and one that is saved; an image is one, and a run's
+an_image : asked_by (codes "run" ∷ codes "--image" ∷ codes "img" ∷ codes "s" ∷ []) ≡ Some (Run (record { script = codes "s"; disk = Image (codes "img"); save = None; order = None }))
+an_image = refl
+
+an_image_with_segments : asked_by (codes "run" ∷ codes "s" ∷ codes "--segments=2" ∷ codes "--image=img" ∷ []) ≡ None
+an_image_with_segments = refl
+
+a_saved_run : asked_by (codes "run" ∷ codes "s" ∷ codes "--save" ∷ codes "new" ∷ codes "--segments=2" ∷ [])
+    ≡ Some (Run (record { script = codes "s"; disk = Fresh 2; save = Some (codes "new"); order = None }))
+a_saved_run = refl
+
+a_saved_image : asked_by (codes "run" ∷ codes "--save=new" ∷ codes "s" ∷ codes "--order=7" ∷ codes "--image=img" ∷ [])
+    ≡ Some (Run (record { script = codes "s"; disk = Image (codes "img"); save = Some (codes "new"); order = Some 7 }))
+a_saved_image = refl
+
+image_twice : asked_by (codes "run" ∷ codes "s" ∷ codes "--image=img" ∷ codes "--image=img" ∷ []) ≡ None
+image_twice = refl
+
+saved_twice : asked_by (codes "run" ∷ codes "s" ∷ codes "--save=new" ∷ codes "--save=new" ∷ []) ≡ None
+saved_twice = refl
+
+an_image_recovered : asked_by (codes "recover" ∷ codes "--image=img" ∷ []) ≡ None
+an_image_recovered = refl
+
+another_image : asked_by (codes "recover" ∷ codes "img" ∷ codes "--image=img" ∷ []) ≡ None
+another_image = refl
 
 unknown : asked_by (codes "run" ∷ codes "--help" ∷ codes "s" ∷ []) ≡ None
 unknown = refl
@@ -66,3 +93,31 @@ a_check = refl
 
 a_saved_check : asked_by (codes "fsck" ∷ codes "img" ∷ codes "--save=new" ∷ []) ≡ None
 a_saved_check = refl
+
+-- a soak by its number, without an option; its numbers are those of an order
+a_soak : asked_by (codes "soak" ∷ codes "7" ∷ []) ≡ Some (Soak 7)
+a_soak = refl
+
+last_soak : asked_by (codes "soak" ∷ codes "18446744073709551615" ∷ []) ≡ Some (Soak (2 ^ 64 - 1))
+last_soak = refl
+
+no_soak : asked_by (codes "soak" ∷ codes "18446744073709551616" ∷ []) ≡ None
+no_soak = refl
+
+a_padded_soak : asked_by (codes "soak" ∷ codes "07" ∷ []) ≡ None
+a_padded_soak = refl
+
+a_signed_soak : asked_by (codes "soak" ∷ codes "+7" ∷ []) ≡ None
+a_signed_soak = refl
+
+a_soak_without_number : asked_by (codes "soak" ∷ []) ≡ None
+a_soak_without_number = refl
+
+two_soaks : asked_by (codes "soak" ∷ codes "7" ∷ codes "8" ∷ []) ≡ None
+two_soaks = refl
+
+an_ordered_soak : asked_by (codes "soak" ∷ codes "7" ∷ codes "--order=1" ∷ []) ≡ None
+an_ordered_soak = refl
+
+a_soak_of_an_image : asked_by (codes "soak" ∷ codes "7" ∷ codes "--image=img" ∷ []) ≡ None
+a_soak_of_an_image = refl

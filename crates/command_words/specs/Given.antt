@@ -8,6 +8,7 @@ use Rattle.std.specs.List.{after_first, before_first, list_any}
 -- an option of a command, which has a value
 pub data CommandOption : Type 0 where
   Segments : CommandOption
+  Image : CommandOption
   Save : CommandOption
   Order : CommandOption
 
@@ -15,6 +16,7 @@ pub data CommandOption : Type 0 where
 pub record Given : Type 0 where
   pub places : List (List ℕ)
   pub segments : List (List ℕ)
+  pub image : List (List ℕ)
   pub save : List (List ℕ)
   pub order : List (List ℕ)
 
@@ -25,7 +27,7 @@ pub record Reading : Type 0 where
   pub ended : Bool
 
 abbrev pub nothing_read : Reading
-nothing_read = record { given = record { places = []; segments = []; save = []; order = [] }; awaited = None; ended = false }
+nothing_read = record { given = record { places = []; segments = []; image = []; save = []; order = [] }; awaited = None; ended = false }
 
 -- a word that begins with `-` and is longer than that
 abbrev pub is_dashed : List ℕ → Bool
@@ -40,6 +42,7 @@ with_place word given = record given { places = given.places ++ word ∷ [] }
 -- one value of an option more
 abbrev pub with_value : CommandOption → List ℕ → Given → Given
 with_value Segments value given = record given { segments = given.segments ++ value ∷ [] }
+with_value Image value given = record given { image = given.image ++ value ∷ [] }
 with_value Save value given = record given { save = given.save ++ value ∷ [] }
 with_value Order value given = record given { order = given.order ++ value ∷ [] }
 
@@ -47,9 +50,10 @@ with_value Order value given = record given { order = given.order ++ value ∷ [
 abbrev pub option_named : List ℕ → Option CommandOption
 option_named name =
     if bytes_eq name (codes "segments") then Some Segments
+    else (if bytes_eq name (codes "image") then Some Image
     else (if bytes_eq name (codes "save") then Some Save
     else (if bytes_eq name (codes "order") then Some Order
-    else None))
+    else None)))
 
 -- what stands before the first `=` of a text, and what stands after it, where there is one
 abbrev pub is_equals : ℕ → Bool

@@ -5,11 +5,13 @@ use Rattle.frang_base.specs.declared.limits.TheConstants.{SEGMENTS_MAX}
 use Rattle.command_words.specs.declared.words.GivenWords.{GivenWords}
 use Rattle.command_words.specs.declared.commands.Command.{Command}
 use Rattle.command_words.specs.declared.commands.Command.TheVariants as command
+use Rattle.command_words.specs.declared.commands.DiskChoice.{DiskChoice}
+use Rattle.command_words.specs.declared.commands.DiskChoice.TheVariants as choice
 use Rattle.command_words.specs.declared.commands.ImageCommand.{ImageCommand}
 use Rattle.command_words.specs.declared.commands.ImageCommand.TheVariants as image
 use Rattle.command_words.specs.declared.commands.RunCommand.{RunCommand}
 use Rattle.command_words.specs.Given.{Given}
-use Rattle.command_words.specs.Commands.{Asked, Asks, Fsck, ImageAsks, Log, OnImage, Recover, Run, Tree}
+use Rattle.command_words.specs.Commands.{Asked, AskedDisk, Asks, Fresh, Fsck, Image, ImageAsks, Log, OnImage, Recover, Run, Soak, Tree}
 
 -- the text of a word, if there is one
 abbrev pub text_of : Option (Bor (List ℕ)) → Option (List ℕ)
@@ -24,10 +26,14 @@ abbrev pub pair_of : Option (Bor (List ℕ) × Bor (List ℕ)) → Option (List 
 pair_of words = option_map (λ w. (w.0.now, w.1.now)) words
 
 abbrev pub given_of : GivenWords → Given
-given_of g = record { places = texts_of g.places; segments = texts_of g.segments; save = texts_of g.save; order = texts_of g.order }
+given_of g = record { places = texts_of g.places; segments = texts_of g.segments; image = texts_of g.image; save = texts_of g.save; order = texts_of g.order }
+
+abbrev pub disk_of : DiskChoice → AskedDisk
+disk_of (choice.Fresh segments) = Fresh segments
+disk_of (choice.Image name) = Image name.now
 
 abbrev pub asks_of : RunCommand → Asks
-asks_of run = record { script = run.script.now; segments = run.segments; order = run.order }
+asks_of run = record { script = run.script.now; disk = disk_of run.disk; save = text_of run.save; order = run.order }
 
 abbrev pub image_asks_of : ImageCommand → ImageAsks
 image_asks_of (image.Recover name save) = Recover name.now (text_of save)
@@ -38,12 +44,19 @@ image_asks_of (image.Fsck name) = Fsck name.now
 abbrev pub asked_of : Command → Asked
 asked_of (command.Run run) = Run (asks_of run)
 asked_of (command.OnImage asks) = OnImage (image_asks_of asks)
+asked_of (command.Soak number) = Soak number
 
 -- a disk may have so many segments
 abbrev pub HasSize : ℕ → Type 0
 HasSize segments = (1 ≤ segments) × (segments ≤ SEGMENTS_MAX)
 
--- a run has as many segments as a disk may have
+-- a fresh disk has as many segments as a disk may have
+abbrev pub HasFreshSize : DiskChoice → Type 0
+HasFreshSize (choice.Fresh segments) = HasSize segments
+HasFreshSize (choice.Image name) = Unit {0}
+
+-- the fresh disk of a run has so
 abbrev pub HasSegments : Command → Type 0
-HasSegments (command.Run run) = HasSize run.segments
+HasSegments (command.Run run) = HasFreshSize run.disk
 HasSegments (command.OnImage asks) = Unit {0}
+HasSegments (command.Soak number) = Unit {0}

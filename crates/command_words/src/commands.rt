@@ -1,19 +1,27 @@
 // What the words of a command line ask.
 ghost use Rattle.std.specs.Prelude.{◌≡◌, ◌≤◌, IfSome, option_map};
 ghost use Rattle.frang_base.specs.declared.limits.TheConstants.{SEGMENTS_MAX};
-ghost use Rattle.command_words.specs.Commands.{asked_with, bare, fsck_by, image_asked, log_by, recover_by, run_by, segments_in, tree_by};
-ghost use Rattle.command_words.specs.Views.{HasSegments, asked_of, asks_of, given_of, image_asks_of, text_of};
+ghost use Rattle.command_words.specs.Commands.{asked_with, bare, disk_by, disk_in, fsck_by, image_asked, log_by, recover_by, run_by, segments_in, soak_by, tree_by};
+ghost use Rattle.command_words.specs.Views.{HasFreshSize, HasSegments, asked_of, asks_of, disk_of, given_of, image_asks_of, text_of};
 
-use crate::orders::order_in;
+use crate::orders::{order_in, wide_number};
 use crate::words::{GivenWords, at_most_one, only, only_two, unless};
 use frang_base::limits::{SEGMENTS_DEFAULT, SEGMENTS_MAX};
 use script_definitions::number_within;
 
-/// A script to be run on a fresh disk of so many segments, 1 to 64, in the order of events that this number picks, where one is given.
+/// The disk on which a script is run: a fresh one of so many segments, 1 to 64, or that of an image, by its name.
+#[derive(Clone, Copy)]
+pub enum DiskChoice<'a> {
+    Fresh { segments: u32 },
+    Image { image: &'a str },
+}
+
+/// A script to be run on a disk, in the order of events that this number picks, where one is given; after the run the disk is saved, where a name is given for its image.
 #[derive(Clone, Copy)]
 pub struct RunCommand<'a> {
     pub script: &'a str,
-    pub segments: u32,
+    pub disk: DiskChoice<'a>,
+    pub save: Option<&'a str>,
     pub order: Option<u64>,
 }
 
@@ -45,6 +53,8 @@ pub enum ImageCommand<'a> {
 pub enum Command<'a> {
     Run(RunCommand<'a>),
     OnImage(ImageCommand<'a>),
+    /// To run the script of a soak, by its number.
+    Soak { number: u64 },
 }
 
 #[tactic(auto, using(script_definitions::proofs::NumeralLaws::number_in_most, crate::proofs::Numbers::number_in_least))]
@@ -59,17 +69,42 @@ fn segments_in(value: Option<&str>) -> Option<u32>
     }
 }
 
+// The disk that is asked for, which isn't both fresh and an image's.
+fn disk_in<'a>(segments: Option<&str>, image: Option<&'a str>) -> Option<DiskChoice<'a>>
+    ensures is { option_map disk_of result ≡ disk_in (text_of segments.entry) (text_of image.entry) }
+    ensures sized { IfSome result (λ disk. HasFreshSize disk) }
+{
+    match (segments, image) {
+        (segments, None) => {
+            let segments = segments_in(segments)?;
+            Some(DiskChoice::Fresh { segments })
+        }
+        (None, Some(image)) => Some(DiskChoice::Image { image }),
+        (Some(_), Some(_)) => None,
+    }
+}
+
+fn disk_by<'a>(given: GivenWords<'_, 'a>) -> Option<DiskChoice<'a>>
+    ensures is { option_map disk_of result ≡ disk_by (given_of given.entry) }
+    ensures sized { IfSome result (λ disk. HasFreshSize disk) }
+{
+    let segments = at_most_one(given.segments)?;
+    let image = at_most_one(given.image)?;
+    disk_in(segments, image)
+}
+
 fn run_by<'a>(given: GivenWords<'_, 'a>) -> Option<RunCommand<'a>>
     ensures is { option_map asks_of result ≡ run_by (given_of given.entry) }
-    ensures least { IfSome result (λ run. 1 ≤ run.segments) }
-    ensures most { IfSome result (λ run. run.segments ≤ SEGMENTS_MAX) }
+    ensures sized { IfSome result (λ run. HasFreshSize run.disk) }
 {
-    let script = unless(given.save, only(given.places))?;
-    let segments = segments_in(at_most_one(given.segments)?)?;
+    let script = only(given.places)?;
+    let disk = disk_by(given)?;
+    let save = at_most_one(given.save)?;
     let order = order_in(at_most_one(given.order)?)?;
     Some(RunCommand {
         script,
-        segments,
+        disk,
+        save,
         order,
     })
 }
@@ -77,7 +112,10 @@ fn run_by<'a>(given: GivenWords<'_, 'a>) -> Option<RunCommand<'a>>
 fn recover_by<'a>(given: GivenWords<'_, 'a>) -> Option<ImageCommand<'a>>
     ensures { option_map image_asks_of result ≡ recover_by (given_of given.entry) }
 {
-    let image = unless(given.order, unless(given.segments, only(given.places)))?;
+    let image = unless(
+        given.order,
+        unless(given.image, unless(given.segments, only(given.places))),
+    )?;
     let save = at_most_one(given.save)?;
     Some(ImageCommand::Recover { image, save })
 }
@@ -88,7 +126,10 @@ fn bare<'a>(given: GivenWords<'_, '_>, word: Option<&'a str>) -> Option<&'a str>
 {
     unless(
         given.order,
-        unless(given.save, unless(given.segments, word)),
+        unless(
+            given.save,
+            unless(given.image, unless(given.segments, word)),
+        ),
     )
 }
 
@@ -119,6 +160,13 @@ fn fsck_by<'a>(given: GivenWords<'_, 'a>) -> Option<ImageCommand<'a>>
     Some(ImageCommand::Fsck { image })
 }
 
+fn soak_by(given: GivenWords<'_, '_>) -> Option<u64>
+    ensures { result ≡ soak_by (given_of given.entry) }
+{
+    let number = bare(given, only(given.places))?;
+    wide_number(number)
+}
+
 // A command on an image by its name.
 fn image_asked<'a>(name: &str, given: GivenWords<'_, 'a>) -> Option<ImageCommand<'a>>
     ensures { option_map image_asks_of result ≡ image_asked name.now (given_of given.entry) }
@@ -144,6 +192,9 @@ pub fn asked_with<'a>(name: &str, given: GivenWords<'_, 'a>) -> Option<Command<'
     if name == "run" {
         let run = run_by(given)?;
         Some(Command::Run(run))
+    } else if name == "soak" {
+        let number = soak_by(given)?;
+        Some(Command::Soak { number })
     } else {
         let asked = image_asked(name, given)?;
         Some(Command::OnImage(asked))

@@ -1,8 +1,8 @@
-// The order of events that a run is asked for.
+// Numbers of 64 bits: the order of events that a run is asked for, and the number of a soak.
 ghost use Rattle.std.specs.Prelude.{◌≡◌, ◌-◌, ◌^◌, true};
 ghost use Rattle.std.specs.List.{list_all};
-ghost use Rattle.script_definitions.specs.Numerals.{is_digit, is_numeral, number_in};
-ghost use Rattle.command_words.specs.Commands.{order_in};
+ghost use Rattle.script_definitions.specs.Numerals.{is_digit, is_numeral};
+ghost use Rattle.command_words.specs.Commands.{order_in, wide_number};
 ghost use Rattle.command_words.specs.Views.{text_of};
 
 fn are_digits(text: &[u8]) -> bool
@@ -31,14 +31,14 @@ fn is_numeral(word: &[u8]) -> bool
 #[tactic(auto, using(crate::proofs::Numbers::parsed))]
 fn numeral_value(digits: &str) -> Option<u64>
     requires { is_numeral digits.now ≡ true }
-    ensures { result ≡ number_in 0 (2 ^ 64 - 1) digits.now }
+    ensures { result ≡ wide_number digits.now }
 {
     digits.parse::<u64>().ok()
 }
 
-// The number that a word writes in decimal digits without a leading zero, if it has 64 bits.
-fn wide_number(word: &str) -> Option<u64>
-    ensures { result ≡ number_in 0 (2 ^ 64 - 1) word.now }
+/// The number that a word writes in decimal digits without a leading zero, if it has 64 bits.
+pub fn wide_number(word: &str) -> Option<u64>
+    ensures { result ≡ wide_number word.now }
 {
     if is_numeral(word.as_bytes()) {
         numeral_value(word)

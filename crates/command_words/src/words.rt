@@ -8,6 +8,7 @@ ghost use Rattle.command_words.specs.Views.{pair_of, text_of, texts_of};
 pub struct GivenWords<'m, 'a> {
     pub places: Option<&'m [&'a str]>,
     pub segments: Option<&'m [&'a str]>,
+    pub image: Option<&'m [&'a str]>,
     pub save: Option<&'m [&'a str]>,
     pub order: Option<&'m [&'a str]>,
 }

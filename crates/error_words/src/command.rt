@@ -1,10 +1,10 @@
 // What of a command line is no command.
-use crate::usage::{OptionForm, USAGES, Usage};
+use crate::usage::{OPTIONS, OptionForm, USAGES, Usage};
 use frang_base::NoMemory;
 use std::alloc::Global;
 
-/// What is wrong with the words of a command line: a line of words without a line feed, and the place of the command that they name among the five, `run`, `recover`, `tree`, `log`, `fsck`,
-/// where they name one.
+/// What is wrong with the words of a command line: a line of words without a line feed, and the place of the command that they name among the six, `run`, `recover`, `tree`, `log`, `fsck`,
+/// `soak`, where they name one.
 #[derive(Drop)]
 pub struct Wrong {
     pub text: String,
@@ -19,7 +19,12 @@ struct Walk<'a> {
     places: usize,
     has_ended: bool,
     skips: bool,
-    given: [bool; 2],
+    given: [bool; OPTIONS],
+}
+
+// Whether a word begins with `-` and is longer than that.
+fn is_dashed(word: &str) -> bool {
+    word.starts_with('-') && word != "-"
 }
 
 impl<'a> Walk<'a> {
@@ -38,15 +43,12 @@ impl<'a> Walk<'a> {
 
     // What is wrong with an option's value.
     fn at_value(
-        &mut self,
+        &self,
         alloc: Global,
         form: &OptionForm,
-        value: Option<&str>,
+        value: &str,
     ) -> Result<Option<String>, NoMemory> {
         let name = form.place.name;
-        let Some(value) = value else {
-            return Ok(Some(format!(in alloc; "{name}: its value is missing")?));
-        };
         if form.place.takes(value) {
             return Ok(None);
         }
@@ -54,11 +56,42 @@ impl<'a> Walk<'a> {
         Ok(Some(format!(in alloc; "{name} {value}: {wanted}")?))
     }
 
-    // Whether the option at a place was given before; from now on it was.
+    // What is wrong with an option's value that is the next word.
+    fn at_next(
+        &mut self,
+        alloc: Global,
+        form: &OptionForm,
+        next: Option<&String>,
+    ) -> Result<Option<String>, NoMemory> {
+        let name = form.place.name;
+        let Some(next) = next else {
+            return Ok(Some(format!(in alloc; "{name}: its value is missing")?));
+        };
+        let value = next.as_str();
+        if is_dashed(value) {
+            return Ok(Some(format!(in alloc;
+                "{name}: its value is missing, or is behind = where it begins with -"
+            )?));
+        }
+        self.skips = true;
+        self.at_value(alloc, form, value)
+    }
+
+    // Whether the option of a number was given before; from now on it was.
     fn gives_again(&mut self, number: usize) -> bool {
         match self.given.get_mut(number) {
             Some(given) => std::mem::replace(given, true),
             None => false,
+        }
+    }
+
+    // What is said of an option that is given with another that it isn't given with.
+    fn apart(&self, form: &OptionForm) -> Option<&'static str> {
+        let (other, said) = form.apart?;
+        if self.given.get(other).copied() == Some(true) {
+            Some(said)
+        } else {
+            None
         }
     }
 
@@ -80,12 +113,13 @@ impl<'a> Walk<'a> {
         if self.gives_again(form.number) {
             return Ok(Some(format!(in alloc; "{name}: given twice")?));
         }
-        self.skips = own.is_none();
-        let next = self
-            .words
-            .get(at.saturating_add(1))
-            .map(|word| word.as_str());
-        self.at_value(alloc, form, own.or(next))
+        if let Some(said) = self.apart(form) {
+            return Ok(Some(format!(in alloc; "{said}")?));
+        }
+        match own {
+            Some(value) => self.at_value(alloc, form, value),
+            None => self.at_next(alloc, form, self.words.get(at.saturating_add(1))),
+        }
     }
 
     // What is wrong with the word at a place, those before it looked at.
@@ -94,7 +128,7 @@ impl<'a> Walk<'a> {
             self.skips = false;
             return Ok(None);
         }
-        if self.has_ended || !word.starts_with('-') || word == "-" {
+        if self.has_ended || !is_dashed(word) {
             return self.at_place(alloc, word);
         }
         if word == "--" {
@@ -128,7 +162,7 @@ fn wrong_behind(
         places: 0,
         has_ended: false,
         skips: false,
-        given: [false; 2],
+        given: [false; OPTIONS],
     };
     for (at, word) in words.iter().enumerate() {
         if let Some(text) = walk.at(alloc, at, word.as_str())? {

@@ -7,7 +7,7 @@ use script_definitions::number_within;
 pub enum Kind {
     Name,
     Segments,
-    Order,
+    Wide,
     Log,
 }
 
@@ -19,7 +19,7 @@ pub struct Place {
 }
 
 // Whether a word is a number of 64 bits without zeros before it.
-fn is_order(word: &str) -> bool {
+fn is_wide(word: &str) -> bool {
     let has_digits = word.as_bytes().iter().all(u8::is_ascii_digit);
     has_digits && (word == "0" || !word.starts_with('0')) && word.parse::<u64>().is_ok()
 }
@@ -30,16 +30,20 @@ impl Place {
         match self.kind {
             Kind::Name => true,
             Kind::Segments => number_within(word.as_bytes(), 1, SEGMENTS_MAX).is_some(),
-            Kind::Order => is_order(word),
+            Kind::Wide => is_wide(word),
             Kind::Log => number_within(word.as_bytes(), 0, 255).is_some(),
         }
     }
 }
 
-/// An option, and its number among those of its command.
+/// How many options there are.
+pub const OPTIONS: usize = 4;
+
+/// An option, its number among all, and that of the option that it isn't given with, where there is one, with what is said of both.
 pub struct OptionForm {
     pub place: Place,
     pub number: usize,
+    pub apart: Option<(usize, &'static str)>,
 }
 
 /// A command: its name, the words that it takes, and its options.
@@ -74,6 +78,14 @@ const SERVER: Place = Place {
     value: "0 to 255",
 };
 
+const NUMBER: Place = Place {
+    name: "N",
+    kind: Kind::Wide,
+    value: "0 to 18446744073709551615",
+};
+
+const FRESH_ALONE: &str = "--segments: for a fresh disk, not with --image";
+
 const SEGMENTS: OptionForm = OptionForm {
     place: Place {
         name: "--segments",
@@ -81,15 +93,17 @@ const SEGMENTS: OptionForm = OptionForm {
         value: "1 to 64",
     },
     number: 0,
+    apart: Some((1, FRESH_ALONE)),
 };
 
-const ORDER: OptionForm = OptionForm {
+const FROM_IMAGE: OptionForm = OptionForm {
     place: Place {
-        name: "--order",
-        kind: Kind::Order,
-        value: "0 to 18446744073709551615",
+        name: "--image",
+        kind: Kind::Name,
+        value: "a file's name",
     },
     number: 1,
+    apart: Some((0, FRESH_ALONE)),
 };
 
 const SAVE: OptionForm = OptionForm {
@@ -98,15 +112,26 @@ const SAVE: OptionForm = OptionForm {
         kind: Kind::Name,
         value: "a file's name",
     },
-    number: 0,
+    number: 2,
+    apart: None,
+};
+
+const ORDER: OptionForm = OptionForm {
+    place: Place {
+        name: "--order",
+        kind: Kind::Wide,
+        value: "0 to 18446744073709551615",
+    },
+    number: 3,
+    apart: None,
 };
 
 /// The commands, in the order in which the program tells of them.
-pub static USAGES: [Usage; 5] = [
+pub static USAGES: [Usage; 6] = [
     Usage {
         name: "run",
         places: &[SCRIPT],
-        options: &[SEGMENTS, ORDER],
+        options: &[FROM_IMAGE, SAVE, ORDER, SEGMENTS],
     },
     Usage {
         name: "recover",
@@ -126,6 +151,11 @@ pub static USAGES: [Usage; 5] = [
     Usage {
         name: "fsck",
         places: &[IMAGE],
+        options: &[],
+    },
+    Usage {
+        name: "soak",
+        places: &[NUMBER],
         options: &[],
     },
 ];

@@ -4,7 +4,8 @@
 #![tactic(auto)]
 
 use frang_outside::{Act, DirFiles, Files, MemOutside, NoGate};
-use frang_top::{Status, frang, run_program};
+use frang_program::run_program;
+use frang_top::{Status, frang};
 use std::alloc::Global;
 use std::collections::BTreeSet;
 use std::fs;
@@ -211,5 +212,5 @@ fn main(rt: HostRuntime) -> anyhow::Result<ExitCode> {
     if !are_all_as_said(&rt, alloc)? {
         return Ok(ExitCode::from(1));
     }
-    run_program(alloc, &rt)
+    run_program(alloc, &rt, &rt.stderr(), &rt.stdout())
 }

@@ -8,7 +8,7 @@ use Rattle.frang_base.specs.declared.script.Line.{Line}
 use Rattle.sector_bytes.specs.Sectors.{SameSectors}
 use Rattle.frang_outside.specs.declared.outside.Failed.{Failed}
 use Rattle.frang_outside.specs.declared.outside.SayFault.TheVariants as say_fault
-use Rattle.frang_outside.specs.Outside.{State as Outside, NoneFell, OneRose, Rose, GetOutcome, SayOutcome}
+use Rattle.frang_outside.specs.Outside.{State as Outside, Follows, OneRose, Rose, GetOutcome, SayOutcome}
 use Rattle.petal_disk.specs.declared.ticket.Ticket.{Ticket}
 use Rattle.petal_disk.specs.declared.ticket.Arrived.{Arrived}
 use Rattle.petal_disk.specs.declared.ticket.Arrived.TheVariants as arrived
@@ -171,7 +171,7 @@ made_quiet laws w w' outset said s event flag ends asks stepping is ends_is r ke
     (finishes w w' outset (event_of event) Nothing NoCall r said 0 s s flag kept goes refl refl stands (is (next r (event_of event) Nothing) stands)))
 
 pub made_said : (laws : CallLaws) (w w' : Stands) (outset : Outset) (said : ℕ) (s t : Outside) (event : Named) (text : List ℕ) (flag : Bool) (ends : Option End × Turn) → AsksSo w event (call.Say text)
-    → Stepping w w' event told.Nothing → IsOver w' flag → SameSectors t.sectors s.sectors → NoneFell s t → SayOutcome s t text (Ok tt) → ends ≡ after_event flag
+    → Stepping w w' event told.Nothing → IsOver w' flag → SameSectors t.sectors s.sectors → Follows s t → SayOutcome s t text (Ok tt) → ends ≡ after_event flag
     → Made w w' outset (event_of event) said s ends.0 (said + 1) t (Ok ends.1)
 made_said laws w w' outset said s t event text flag ends asks stepping is same fell outcome ends_is r kept =
     let a = asks r kept.stands_for in
@@ -181,7 +181,7 @@ made_said laws w w' outset said s t event text flag ends asks stepping is same f
     (finishes w w' outset (event_of event) Nothing (Say text) r said 1 s t flag kept goes refl refl stands (is (next r (event_of event) Nothing) stands))
 
 pub made_got : (laws : CallLaws) (w w' : Stands) (outset : Outset) (said : ℕ) (s t : Outside) (event : Named) (party : ServerId) (sector : Sector) (block : List ℕ) (flag : Bool) (ends : Option End × Turn)
-    → AsksSo w event (call.Get party sector) → Stepping w w' event (told.Got block) → IsOver w' flag → SameSectors t.sectors s.sectors → t.acts ≡ s.acts → NoneFell s t
+    → AsksSo w event (call.Get party sector) → Stepping w w' event (told.Got block) → IsOver w' flag → SameSectors t.sectors s.sectors → t.acts ≡ s.acts → Follows s t
     → GetOutcome s t party.0 sector.0 (Ok block) → ends ≡ after_event flag → Made w w' outset (event_of event) said s ends.0 said t (Ok ends.1)
 made_got laws w w' outset said s t event party sector block flag ends asks stepping is same acts fell outcome ends_is r kept =
     let a = asks r kept.stands_for in
@@ -193,7 +193,7 @@ made_got laws w w' outset said s t event party sector block flag ends asks stepp
     (finishes w w' outset (event_of event) (Got block) (Get party.0 sector.0) r said 0 s t flag kept goes refl refl stands (is (next r (event_of event) (Got block)) stands)))
 
 pub made_get_failed : (laws : CallLaws) (w w' : Stands) (outset : Outset) (said : ℕ) (s t : Outside) (event : Named) (party : ServerId) (sector : Sector) (fault : Failed) (flag : Bool) (ends : Option End × Turn)
-    → AsksSo w event (call.Get party sector) → Stepping w w' event told.GetFailed → IsOver w' flag → SameSectors t.sectors s.sectors → t.acts ≡ s.acts → NoneFell s t
+    → AsksSo w event (call.Get party sector) → Stepping w w' event told.GetFailed → IsOver w' flag → SameSectors t.sectors s.sectors → t.acts ≡ s.acts → Follows s t
     → GetOutcome s t party.0 sector.0 (Err fault) → ends ≡ after_failed party sector flag → Made w w' outset (event_of event) said s ends.0 said t (Ok ends.1)
 made_get_failed laws w w' outset said s t event party sector fault flag ends asks stepping is same acts fell rose ends_is r kept =
     let a = asks r kept.stands_for in
@@ -209,7 +209,7 @@ put_event : (r : RunMoment) (event : Event) (ticket party sector : ℕ) → Can 
 put_event r event ticket party sector can asks = (put_asked r.core event ticket asks.put (viewed r.core event can) asks.call_is).event_is
 
 pub made_put : (laws : CallLaws) (w w' : Stands) (outset : Outset) (said : ℕ) (s t : Outside) (event : Named) (ticket : Ticket) (party : ServerId) (sector : Sector) (flag : Bool) (ends : Option End × Turn)
-    → AsksSo w event (call.Put ticket party sector) → NoneFell s t → Arriving w w' ticket.0 s t arrived.Written → IsOver w' flag → ends ≡ after_event flag
+    → AsksSo w event (call.Put ticket party sector) → Follows s t → Arriving w w' ticket.0 s t arrived.Written → IsOver w' flag → ends ≡ after_event flag
     → Made w w' outset (event_of event) said s ends.0 said t (Ok ends.1)
 made_put laws w w' outset said s t event ticket party sector flag ends asks fell lands is ends_is r kept =
     let a = asks r kept.stands_for in
@@ -226,7 +226,7 @@ made_put laws w w' outset said s t event ticket party sector flag ends asks fell
     (finishes w w' outset (Arrive ticket.0) Written (MakePut ticket.0 a.1.put) r said 0 s t flag kept goes refl refl stands (is (next r (Arrive ticket.0) Written) stands))))
 
 pub made_put_late : (laws : CallLaws) (w w' : Stands) (outset : Outset) (said : ℕ) (s t : Outside) (event : Named) (ticket : Ticket) (party : ServerId) (sector : Sector) (stamp now : ℕ) (flag : Bool) (ends : Option End × Turn)
-    → AsksSo w event (call.Put ticket party sector) → NoneFell s t → Arriving w w' ticket.0 s t (arrived.Late stamp now) → IsOver w' flag → ends ≡ after_event flag
+    → AsksSo w event (call.Put ticket party sector) → Follows s t → Arriving w w' ticket.0 s t (arrived.Late stamp now) → IsOver w' flag → ends ≡ after_event flag
     → Made w w' outset (event_of event) said s ends.0 said t (Ok ends.1)
 made_put_late laws w w' outset said s t event ticket party sector stamp now flag ends asks fell lands is ends_is r kept =
     let a = asks r kept.stands_for in
@@ -243,7 +243,7 @@ made_put_late laws w w' outset said s t event ticket party sector stamp now flag
     (finishes w w' outset (Arrive ticket.0) Late (MakePut ticket.0 a.1.put) r said 0 s t flag kept goes refl refl stands (is (next r (Arrive ticket.0) Late) stands))))
 
 pub made_put_failed : (laws : CallLaws) (w w' : Stands) (outset : Outset) (said : ℕ) (s t : Outside) (event : Named) (ticket : Ticket) (party : ServerId) (sector : Sector) (flag : Bool) (ends : Option End × Turn)
-    → AsksSo w event (call.Put ticket party sector) → NoneFell s t → Arriving w w' ticket.0 s t arrived.Failed → IsOver w' flag → ends ≡ after_failed party sector flag
+    → AsksSo w event (call.Put ticket party sector) → Follows s t → Arriving w w' ticket.0 s t arrived.Failed → IsOver w' flag → ends ≡ after_failed party sector flag
     → Made w w' outset (event_of event) said s ends.0 said t (Ok ends.1)
 made_put_failed laws w w' outset said s t event ticket party sector flag ends asks fell lands is ends_is r kept =
     let a = asks r kept.stands_for in
@@ -291,7 +291,7 @@ made_wanting w w' outset event over said s want none same =
     subst (λ (o : Option End). Made w w' outset event said s o said s (Err want)) (sym none) (made_wanting_so w w' outset event said s want same)
 
 made_put_wanting_so : (w w' : Stands) (outset : Outset) (said : ℕ) (s t : Outside) (event : Named) (ticket : Ticket) (party : ServerId) (sector : Sector) (want : NoMemory)
-    → AsksSo w event (call.Put ticket party sector) → NoneFell s t → Arriving w w' ticket.0 s t arrived.NoMemory → Made w w' outset (event_of event) said s None said t (Err want)
+    → AsksSo w event (call.Put ticket party sector) → Follows s t → Arriving w w' ticket.0 s t arrived.NoMemory → Made w w' outset (event_of event) said s None said t (Err want)
 made_put_wanting_so w w' outset said s t event ticket party sector want asks fell lands r kept =
     let a = asks r kept.stands_for in
     let is_arrival : event_of event ≡ Arrive ticket.0 = put_event r (event_of event) ticket.0 party.0 sector.0 a.0 a.1 in
@@ -299,21 +299,21 @@ made_put_wanting_so w w' outset said s t event ticket party sector want asks fel
     wants w w' outset (event_of event) r said s t want l.1 kept (still outset r s t kept.runs l.0.0 l.0.1 fell)
 
 pub made_put_wanting : (w w' : Stands) (outset : Outset) (over : Option End) (said : ℕ) (s t : Outside) (event : Named) (ticket : Ticket) (party : ServerId) (sector : Sector) (want : NoMemory) → over ≡ None
-    → AsksSo w event (call.Put ticket party sector) → NoneFell s t → Arriving w w' ticket.0 s t arrived.NoMemory → Made w w' outset (event_of event) said s over said t (Err want)
+    → AsksSo w event (call.Put ticket party sector) → Follows s t → Arriving w w' ticket.0 s t arrived.NoMemory → Made w w' outset (event_of event) said s over said t (Err want)
 made_put_wanting w w' outset over said s t event ticket party sector want none asks fell lands =
     subst (λ (o : Option End). Made w w' outset (event_of event) said s o said t (Err want)) (sym none) (made_put_wanting_so w w' outset said s t event ticket party sector want asks fell lands)
 
-made_say_wanting_so : (w : Stands) (outset : Outset) (event : Event) (said : ℕ) (s t : Outside) (text : List ℕ) (want : NoMemory) → SameSectors t.sectors s.sectors → NoneFell s t
+made_say_wanting_so : (w : Stands) (outset : Outset) (event : Event) (said : ℕ) (s t : Outside) (text : List ℕ) (want : NoMemory) → SameSectors t.sectors s.sectors → Follows s t
     → SayOutcome s t text (Err say_fault.NoMemory) → Made w w outset event said s None said t (Err want)
 made_say_wanting_so w outset event said s t text want same fell outcome r kept =
     wants w w outset event r said s t want kept.stands_for kept (still outset r s t kept.runs same outcome.0 fell)
 
-pub made_say_wanting : (w : Stands) (outset : Outset) (event : Event) (over : Option End) (said : ℕ) (s t : Outside) (text : List ℕ) (want : NoMemory) → over ≡ None → SameSectors t.sectors s.sectors → NoneFell s t
+pub made_say_wanting : (w : Stands) (outset : Outset) (event : Event) (over : Option End) (said : ℕ) (s t : Outside) (text : List ℕ) (want : NoMemory) → over ≡ None → SameSectors t.sectors s.sectors → Follows s t
     → SayOutcome s t text (Err say_fault.NoMemory) → Made w w outset event said s over said t (Err want)
 made_say_wanting w outset event over said s t text want none same fell outcome =
     subst (λ (o : Option End). Made w w outset event said s o said t (Err want)) (sym none) (made_say_wanting_so w outset event said s t text want same fell outcome)
 
-pub made_mute : (w : Stands) (outset : Outset) (event : Event) (said : ℕ) (s t : Outside) (text : List ℕ) → SameSectors t.sectors s.sectors → NoneFell s t → SayOutcome s t text (Err say_fault.Failed)
+pub made_mute : (w : Stands) (outset : Outset) (event : Event) (said : ℕ) (s t : Outside) (text : List ℕ) → SameSectors t.sectors s.sectors → Follows s t → SayOutcome s t text (Err say_fault.Failed)
     → Made w w outset event said s (Some Mute) said t (Ok turn.Mute)
 made_mute w outset event said s t text same fell outcome r kept =
     let stays = still outset r s t kept.runs same outcome.0 fell in

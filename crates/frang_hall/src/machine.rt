@@ -3,7 +3,7 @@ ghost use Rattle.std.specs.Prelude.{◌≡◌, IfOk, Ok, None, IfSome};
 ghost use Rattle.core_definitions.specs.Events.{Event as CoreEvent, Arrive};
 ghost use Rattle.core_definitions.specs.Runs.{State as RunMoment};
 ghost use Rattle.core_definitions.specs.Settings.{Setting};
-ghost use Rattle.frang_outside.specs.Outside.{NoneFell};
+ghost use Rattle.frang_outside.specs.Outside.{Follows};
 ghost use Rattle.hall_runs.specs.Asking.{event_of};
 ghost use Rattle.hall_runs.specs.Gates.{line_at_gate, number_to_enter};
 ghost use Rattle.frang_hall.specs.Machines.{Arriving, Drawn, Enters, IsReady, Listed, NoneListed, Same, Stepping};
@@ -67,6 +67,6 @@ pub trait Machine: Drop {
     /// The write with this ticket arrives, and the event of that is made, where it was answered.
     fn arrive<O: Outside>(&mut self, ticket: Ticket, out: &mut O) -> Arrived
         requires { has_room self.old (Arrive ticket.0) }
-        ensures counts { NoneFell (O.state out.old) (O.state out.new) }
+        ensures counts { Follows (O.state out.old) (O.state out.new) }
         ensures arrives { Arriving (stands self.old) (stands self.new) ticket.0 (O.state out.old) (O.state out.new) result };
 }

@@ -43,7 +43,7 @@ with_fault faults party = slice_set faults party (one_more (slice_index faults p
 
 -- what an outside that fails at listed calls means
 abbrev pub faulty_state : Faulty → State
-faulty_state f = record { sectors = disk_after f.acts; acts = Some f.acts; faults = λ party. slice_index f.faults party; say_faults = f.say_faults }
+faulty_state f = record { sectors = disk_after f.acts; acts = Some f.acts; faults = λ party. slice_index f.faults party; say_faults = f.say_faults; mark = [] }
 
 -- its record accounts for its sectors
 pub faulty_accounts : (f : Faulty) → Accounts (faulty_state f)

@@ -16,7 +16,7 @@ use Rattle.frang_outside.specs.Outside.{State, Accounts}
 
 -- what an outside in memory means by its record
 abbrev pub memory_state : List Act → State
-memory_state acts = record { sectors = disk_after acts; acts = Some acts; faults = λ party. 0; say_faults = 0 }
+memory_state acts = record { sectors = disk_after acts; acts = Some acts; faults = λ party. 0; say_faults = 0; mark = [] }
 
 -- that record accounts for the sectors
 pub memory_accounts : (acts : List Act) → Accounts (memory_state acts)

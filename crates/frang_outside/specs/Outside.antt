@@ -13,12 +13,14 @@ use Rattle.frang_outside.specs.declared.outside.SayFault.TheVariants.{Failed as 
 use Rattle.frang_outside.specs.Disk.{written, disk_after}
 use Rattle.sector_bytes.specs.Sectors.{Sectors, SameSectors}
 
--- the bytes of each sector; the acts so far, where they are told; how many gets and puts have failed that named a party, and how many says
+-- the bytes of each sector; the acts so far, where they are told; how many gets and puts have failed that named a party, and how many says; and a mark that
+-- no call changes, by which an outside that stands on another one says what it was made with
 pub record State : Type 0 where
   pub sectors : Sectors
   pub acts : Option (List Act)
   pub faults : ℕ → ℕ
   pub say_faults : ℕ
+  pub mark : List ℕ
 
 -- a count of faults rose, or stands at its last value
 abbrev pub Rose : ℕ → ℕ → Type 0
@@ -28,10 +30,11 @@ Rose before now = min (before + 1) (2 ^ 64 - 1) ≤ now
 abbrev pub one_more : ℕ → ℕ
 one_more count = if nat_lt count (2 ^ 64 - 1) then count + 1 else count
 
--- no count fell
-pub record NoneFell (old new : State) : Type 0 where
+-- what any calls leave: no count fell, and the mark is the same
+pub record Follows (old new : State) : Type 0 where
   pub faults : (party : ℕ) → old.faults party ≤ new.faults party
   pub says : old.say_faults ≤ new.say_faults
+  pub mark : new.mark ≡ old.mark
 
 -- no count changed
 pub record NoneRose (old new : State) : Type 0 where

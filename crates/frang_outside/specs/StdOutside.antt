@@ -1,5 +1,5 @@
 -- The outside of the program: the sectors that it has in memory, and the says that failed. It tells no record.
-use Rattle.std.specs.Prelude.{◌≡◌, ℕ, List, None, Result, Ok, Err}
+use Rattle.std.specs.Prelude.{◌≡◌, ℕ, List, [], None, Result, Ok, Err}
 use Rattle.std.specs.declared.io.Error.{Error}
 use Rattle.frang_outside.specs.declared.outside.SayFault.{SayFault}
 use Rattle.frang_outside.specs.declared.outside.SayFault.TheVariants.{Failed}
@@ -13,7 +13,7 @@ pub record Standard : Type 0 where
 
 -- what the outside of the program means
 abbrev pub standard_state : Standard → State
-standard_state o = record { sectors = sectors_of o.blocks; acts = None; faults = λ party. 0; say_faults = o.say_faults }
+standard_state o = record { sectors = sectors_of o.blocks; acts = None; faults = λ party. 0; say_faults = o.say_faults; mark = [] }
 
 -- it tells no record that could fail to account for the sectors
 pub standard_accounts : (o : Standard) → Accounts (standard_state o)

@@ -1,7 +1,7 @@
 // An outside in memory that fails at listed calls.
 ghost use Rattle.std.specs.Prelude.{◌≡◌, ℕ, [], length, slice_index};
 ghost use Rattle.sector_bytes.specs.Sectors.{SameSectors};
-ghost use Rattle.frang_outside.specs.Outside.{Rose, NoneFell, GetOutcome, PutOutcome, SayOutcome};
+ghost use Rattle.frang_outside.specs.Outside.{Rose, Follows, GetOutcome, PutOutcome, SayOutcome};
 ghost use Rattle.frang_outside.specs.FaultyOutside.{Calls, is_next_listed, with_call, with_fault, faulty_state, FaultyGet, FaultyPut, FaultySay};
 
 use crate::{Act, Failed, MemOutside, Outside, Put, PutFault, SayFault, Taken};
@@ -94,7 +94,7 @@ impl Outside for FaultyOutside {
         ensures sectors { SameSectors (faulty_state self.new).sectors
             (faulty_state self.old).sectors }
         ensures acts { (faulty_state self.new).acts ≡ (faulty_state self.old).acts }
-        ensures counts { NoneFell (faulty_state self.old) (faulty_state self.new) }
+        ensures counts { Follows (faulty_state self.old) (faulty_state self.new) }
         ensures outcome { GetOutcome (faulty_state self.old) (faulty_state self.new)
             server.0 sector.0 result }
 
@@ -111,7 +111,7 @@ impl Outside for FaultyOutside {
     }
 
     fn put(&mut self, put: &Put) -> Result<Taken, PutFault>
-        ensures counts { NoneFell (faulty_state self.old) (faulty_state self.new) }
+        ensures counts { Follows (faulty_state self.old) (faulty_state self.new) }
         ensures outcome { PutOutcome (faulty_state self.old) (faulty_state self.new)
             put.entry.now result }
 
@@ -131,7 +131,7 @@ impl Outside for FaultyOutside {
     fn say(&mut self, line: &[u8]) -> Result<(), SayFault>
         ensures sectors { SameSectors (faulty_state self.new).sectors
             (faulty_state self.old).sectors }
-        ensures counts { NoneFell (faulty_state self.old) (faulty_state self.new) }
+        ensures counts { Follows (faulty_state self.old) (faulty_state self.new) }
         ensures outcome { SayOutcome (faulty_state self.old) (faulty_state self.new)
             line.now result }
 

@@ -2,7 +2,7 @@
 ghost use Rattle.std.specs.Prelude.{◌≡◌, [], Ok};
 ghost use Rattle.frang_outside.specs.Disk.{disk_after};
 ghost use Rattle.sector_bytes.specs.Sectors.{SameSectors};
-ghost use Rattle.frang_outside.specs.Outside.{NoneFell, GetOutcome, PutOutcome, SayOutcome};
+ghost use Rattle.frang_outside.specs.Outside.{Follows, GetOutcome, PutOutcome, SayOutcome};
 ghost use Rattle.frang_outside.specs.MemOutside.{memory_state, MemoryPut, MemorySay};
 
 use crate::blocks::Blocks;
@@ -72,7 +72,7 @@ impl Outside for MemOutside {
 
     /// Writes a sector. Refused only for want of memory.
     fn put(&mut self, put: &Put) -> Result<Taken, PutFault>
-        ensures counts { NoneFell (memory_state self.old) (memory_state self.new) }
+        ensures counts { Follows (memory_state self.old) (memory_state self.new) }
         ensures outcome { PutOutcome (memory_state self.old) (memory_state self.new)
             put.entry.now result }
 
@@ -94,7 +94,7 @@ impl Outside for MemOutside {
     fn say(&mut self, line: &[u8]) -> Result<(), SayFault>
         ensures sectors { SameSectors (memory_state self.new).sectors
             (memory_state self.old).sectors }
-        ensures counts { NoneFell (memory_state self.old) (memory_state self.new) }
+        ensures counts { Follows (memory_state self.old) (memory_state self.new) }
         ensures outcome { SayOutcome (memory_state self.old) (memory_state self.new)
             line.now result }
 

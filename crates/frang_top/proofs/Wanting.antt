@@ -2,15 +2,18 @@
 use Rattle.std.proofs.Common.{inl, Option, Some, None, List, ℕ, refl}
 use Rattle.frang_outside.specs.Files.{State as FilesState, Holds}
 use Rattle.frang_outside.specs.Outside.{State}
-use Rattle.command_words.specs.Commands.{Asked, Fsck, ImageAsks, Log, OnImage, Recover, Run, Tree}
+use Rattle.command_words.specs.Commands.{Asked, Fsck, ImageAsks, Log, OnImage, Recover, Run, Soak, Tree}
 use Rattle.image_commands.specs.declared.end.ImageEnd.TheVariants as end
 use Rattle.image_commands.specs.Asked.{EndsAsked, LeavesFiles, OnlyWrites}
 use Rattle.image_commands.proofs.EndLaws.{others_same}
+use Rattle.run_commands.specs.declared.end.RunEnd.{RunEnd}
+use Rattle.run_commands.specs.declared.end.RunEnd.TheVariants as run
+use Rattle.quiet_outside.specs.KeptLines.{NoneTold}
+use Rattle.run_commands.specs.Running.{OnlySaves}
 use Rattle.frang_top.specs.declared.outcome.Outcome.TheVariants as ends
-use Rattle.frang_top.specs.Top.{HasRunFor, NothingYet, written_by}
-use Rattle.frang_top.proofs.Asking.{want_run}
+use Rattle.frang_top.specs.Top.{HasDone, written_by}
 
-image_wants : (asks : ImageAsks) (files : FilesState) (out : State) → NothingYet out.acts → EndsAsked asks files files out out end.NoMemory
+image_wants : (asks : ImageAsks) (files : FilesState) (out : State) → NoneTold out.acts → EndsAsked asks files files out out end.NoMemory
 image_wants (Recover image None) files out nothing = inl nothing
 image_wants (Recover image (Some save)) files out nothing = inl nothing
 image_wants (Tree image) files out nothing = inl nothing
@@ -24,9 +27,10 @@ leaves (Tree image) holds = refl
 leaves (Log image server) holds = refl
 leaves (Fsck image) holds = refl
 
-pub wants : (asked : Option Asked) (files : FilesState) (out : State) → NothingYet out.acts → HasRunFor asked files files out out ends.NoMemory
-wants None files out nothing = (tt, nothing)
-wants (Some (Run asks)) files out nothing = want_run asks files files out nothing
+pub wants : (asked : Option Asked) (files : FilesState) (out : State) → NoneTold out.acts → HasDone asked files files out out ends.NoMemory
+wants None files out nothing = (tt, refl)
+wants (Some (Run asks)) files out nothing = refl
+wants (Some (Soak number)) files out nothing = refl
 wants (Some (OnImage asks)) files out nothing = record {
   ended = end.NoMemory;
   status_is = refl;
@@ -40,3 +44,18 @@ only_writes (Some name) holds = others_same holds name
 
 pub nothing_written : (asked : Option Asked) (holds : Option Holds) → OnlyWrites (written_by asked) holds holds
 nothing_written asked holds = only_writes (written_by asked) holds
+
+-- what a run saves is all that it writes
+pub run_writes : (save : Option (List ℕ)) (outcome : RunEnd) (before after : Option Holds) → OnlySaves save outcome before after → OnlyWrites save before after
+run_writes None outcome before after saves = saves
+run_writes (Some name) run.Done before after saves = saves
+run_writes (Some name) run.NoMemory before after saves = saves
+run_writes (Some name) run.WriteFailed before after saves = saves
+run_writes (Some name) run.ScriptFailed before after saves = rw saves (others_same before name)
+run_writes (Some name) run.ScriptTooLong before after saves = rw saves (others_same before name)
+run_writes (Some name) (run.BadScript fault) before after saves = rw saves (others_same before name)
+run_writes (Some name) run.ImageFailed before after saves = rw saves (others_same before name)
+run_writes (Some name) run.ImageTooLong before after saves = rw saves (others_same before name)
+run_writes (Some name) (run.BadImage at kind sector) before after saves = rw saves (others_same before name)
+run_writes (Some name) (run.Mute said) before after saves = rw saves (others_same before name)
+run_writes (Some name) (run.Fault sector) before after saves = rw saves (others_same before name)

@@ -12,12 +12,13 @@ use script_definitions::LineFault;
 use std::alloc::Global;
 
 /// The commands of the program, a line each: the words, and what they ask.
-pub const COMMANDS: [&str; 5] = [
-    "run SCRIPT [--segments S] [--order N]  runs a script on a fresh disk of S segments, 1 to 64 (else 16), on threads, or in the order of events that N picks",
+pub const COMMANDS: [&str; 6] = [
+    "run SCRIPT [--image F] [--save F] [--order N] [--segments S]  runs a script on the disk of image F, or on a fresh one of S segments, 1 to 64 (else 16), on threads, or in the order of events that N picks, and saves the disk behind it",
     "recover IMAGE [--save F]  says what each log keeps and the tree of the replayed disk, saves it in F",
     "tree IMAGE  says the tree of an image's replayed disk",
     "log IMAGE SERVER  says the records of a log, 0 to 255",
     "fsck IMAGE  says the report of the check of an image's replayed disk, as a line of JSON",
+    "soak N  runs 4,014 lines that N draws, of four servers on threads, and says how many were answered, how many of them ok, and the files of the tree with their bytes",
 ];
 
 // The fault whose kind has this number.

@@ -2,7 +2,7 @@
 ghost use Rattle.std.specs.Prelude.{◌≡◌, ◌≤◌, IfErr, IfOk, IsTrue, None, OnErr};
 ghost use Rattle.frang_base.specs.declared.limits.TheConstants.{SEGMENTS_MAX};
 ghost use Rattle.frang_outside.specs.declared.act.Put.{Put};
-ghost use Rattle.frang_outside.specs.Outside.{NoneFell};
+ghost use Rattle.frang_outside.specs.Outside.{Follows};
 ghost use Rattle.core_definitions.specs.Calls.{MakePut, call_of};
 ghost use Rattle.core_definitions.specs.Cores.{first_core};
 ghost use Rattle.core_definitions.specs.Effects.{after};
@@ -114,7 +114,7 @@ impl World {
     /// of it, whichever block a failed write left; after want of memory it is as before. Nothing is ready then.
     pub fn arrive<O: Outside>(&mut self, ticket: Ticket, out: &mut O) -> Arrived
         requires { IsReadyFor self.old (core.Arrive ticket.0) }
-        ensures counts { NoneFell (O.state out.old) (O.state out.new) }
+        ensures counts { Follows (O.state out.old) (O.state out.new) }
         ensures outcome { (put : Put) → call_of (core_of self.old) (core.Arrive ticket.0) ≡ MakePut ticket.0 put → ArriveOutcome (O.state out.old) (O.state out.new) put result }
         ensures core { Arrives (core_of self.old) (core_of self.new) ticket.0 result }
         ensures ready { self.new.ready ≡ None }

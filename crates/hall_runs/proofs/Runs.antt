@@ -3,7 +3,7 @@ use Rattle.std.proofs.Common.{◌≡◌, ℕ, ◌+◌, ◌-◌, ◌^◌, ◌≤�
 use Rattle.sector_bytes.specs.Sectors.{SameSectors}
 use Rattle.frang_outside.specs.declared.act.Act.{Act}
 use Rattle.frang_outside.specs.declared.act.Act.TheVariants as act
-use Rattle.frang_outside.specs.Outside.{State as Outside, NoneFell, Rose, told_more}
+use Rattle.frang_outside.specs.Outside.{State as Outside, Follows, Rose, told_more}
 use Rattle.core_definitions.specs.Effects.{Deed, Made, Says}
 use Rattle.core_definitions.specs.Faults.{failed_calls, fails_at, is_of}
 use Rattle.core_definitions.specs.Runs.{State as RunMoment, Step, Run, Stays, Goes, act_of, acts_of, saids_of}
@@ -70,11 +70,11 @@ saids_append xs ys =
 
 -- ---- counts
 
-pub fell_trans : (a b c : Outside) → NoneFell a b → NoneFell b c → NoneFell a c
-fell_trans a b c f g = record { faults = λ p. omega (arith, f.faults p, g.faults p); says = omega (arith, f.says, g.says) }
+pub fell_trans : (a b c : Outside) → Follows a b → Follows b c → Follows a c
+fell_trans a b c f g = record { faults = λ p. omega (arith, f.faults p, g.faults p); says = omega (arith, f.says, g.says); mark = g.mark ∙ f.mark }
 
-pub fell_same : (a : Outside) → NoneFell a a
-fell_same a = record { faults = λ p. omega arith; says = omega arith }
+pub fell_same : (a : Outside) → Follows a a
+fell_same a = record { faults = λ p. omega arith; says = omega arith; mark = refl }
 
 pub within_none : (before : ℕ) → IsWithin before 0 before
 within_none before = omega arith
@@ -117,7 +117,7 @@ begins_calm outset party = refl
 
 -- a step that adds these deeds
 pub steps : (outset : Outset) (r v : RunMoment) (step : Step r v) (s t : Outside) (more : List Deed) (kept : RunsTo outset r s)
-    → v.record_ ≡ r.record_ ++ more → SameSectors t.sectors v.disk → t.acts ≡ told_behind s.acts (acts_of more) → NoneFell s t
+    → v.record_ ≡ r.record_ ++ more → SameSectors t.sectors v.disk → t.acts ≡ told_behind s.acts (acts_of more) → Follows s t
     → ((party : ℕ) → IsWithin (s.faults party) (one_of party (fails_at r v step)) (t.faults party)) → StepsTo outset r v s t kept (fails_at r v step)
 steps outset r v step s t more kept is sectors acts fell within = record {
   runs =
@@ -141,7 +141,7 @@ none_more : (n party : ℕ) → n ≡ n + one_of party None
 none_more n party = omega arith
 
 -- nothing of the outside changed but perhaps its counts
-pub still : (outset : Outset) (r : RunMoment) (s t : Outside) (kept : RunsTo outset r s) → SameSectors t.sectors s.sectors → t.acts ≡ s.acts → NoneFell s t → StepsTo outset r r s t kept None
+pub still : (outset : Outset) (r : RunMoment) (s t : Outside) (kept : RunsTo outset r s) → SameSectors t.sectors s.sectors → t.acts ≡ s.acts → Follows s t → StepsTo outset r r s t kept None
 still outset r s t kept sectors acts fell = record {
   runs =
       record {

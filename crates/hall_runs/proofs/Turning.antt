@@ -11,7 +11,7 @@ use Rattle.frang_outside.specs.declared.outside.Failed.{Failed}
 use Rattle.frang_outside.specs.declared.outside.PutFault.TheVariants as put_fault
 use Rattle.frang_outside.specs.declared.outside.SayFault.TheVariants as say_fault
 use Rattle.frang_outside.specs.Disk.{written}
-use Rattle.frang_outside.specs.Outside.{State as Outside, NoneFell, OneRose, GetOutcome, OldOrNew, PutOutcome, SayOutcome}
+use Rattle.frang_outside.specs.Outside.{State as Outside, Follows, OneRose, GetOutcome, OldOrNew, PutOutcome, SayOutcome}
 use Rattle.core_definitions.specs.Calls.{Call, NoCall, Get, MakePut, Say, acts_by, call_of, fails_by}
 use Rattle.core_definitions.specs.Effects.{MayArrive, deeds_of, disk_after, disk_from, disk_with, put_of}
 use Rattle.core_definitions.specs.Events.{Event, Arrive, Heard, Nothing, Got, GetFailed, Written, Late, PutFailed}
@@ -36,7 +36,7 @@ pub record EventTo (outset : Outset) (r : RunMoment) (event : Event) (heard : He
   pub failed : failing r.core event heard ≡ fails_by call heard
 
 makes_so : (laws : CallLaws) (outset : Outset) (r : RunMoment) (event : Event) (heard : Heard) (s t : Outside) (kept : RunsTo outset r s) (call : Call) → Makes r event heard → call_of r.core event ≡ call
-    → SameSectors t.sectors (disk_after r.core r.disk event heard) → t.acts ≡ told_behind s.acts (acts_by call heard) → NoneFell s t
+    → SameSectors t.sectors (disk_after r.core r.disk event heard) → t.acts ≡ told_behind s.acts (acts_by call heard) → Follows s t
     → ((party : ℕ) → IsWithin (s.faults party) (one_of party (fails_by call heard)) (t.faults party)) → EventTo outset r event heard s t kept call
 makes_so laws outset r event heard s t kept call makes asks sectors acts fell within =
     let recorded : acts_of (deeds_of r.core event heard) ≡ acts_by call heard = laws.recorded r.core event heard ∙ ap (λ x. acts_by x heard) asks in
@@ -53,7 +53,7 @@ makes_so laws outset r event heard s t kept call makes asks sectors acts fell wi
 
 -- ---- nothing, and a line
 
-pub quiet : (laws : CallLaws) (outset : Outset) (r : RunMoment) (s : Outside) (event : Event) (kept : RunsTo outset r s) → NoneFell s s → Can r.core event → call_of r.core event ≡ NoCall → EventTo outset r event Nothing s s kept NoCall
+pub quiet : (laws : CallLaws) (outset : Outset) (r : RunMoment) (s : Outside) (event : Event) (kept : RunsTo outset r s) → Follows s s → Can r.core event → call_of r.core event ≡ NoCall → EventTo outset r event Nothing s s kept NoCall
 quiet laws outset r s event kept fell can asks =
     let is = nothing_asked r.core event (viewed r.core event can) asks in
     makes_so laws outset r event Nothing s s kept NoCall (record { can = can; hears = is.hears r.disk }) asks
@@ -61,7 +61,7 @@ quiet laws outset r s event kept fell can asks =
     (sym (told_none s.acts)) fell (λ party. within_none (s.faults party))
 
 pub said : (laws : CallLaws) (outset : Outset) (r : RunMoment) (s t : Outside) (event : Event) (text : List ℕ) (kept : RunsTo outset r s) → Can r.core event → call_of r.core event ≡ Say text
-    → SameSectors t.sectors s.sectors → NoneFell s t → SayOutcome s t text (Ok tt) → EventTo outset r event Nothing s t kept (Say text)
+    → SameSectors t.sectors s.sectors → Follows s t → SayOutcome s t text (Ok tt) → EventTo outset r event Nothing s t kept (Say text)
 said laws outset r s t event text kept can asks same fell outcome =
     let is = say_asked r.core event text (viewed r.core event can) asks in
     makes_so laws outset r event Nothing s t kept (Say text) (record { can = can; hears = is.hears r.disk }) asks
@@ -71,7 +71,7 @@ said laws outset r s t event text kept can asks same fell outcome =
 -- ---- a get
 
 pub got : (laws : CallLaws) (outset : Outset) (r : RunMoment) (s t : Outside) (event : Event) (party sector : ℕ) (block : List ℕ) (kept : RunsTo outset r s) → Can r.core event → call_of r.core event ≡ Get party sector
-    → SameSectors t.sectors s.sectors → t.acts ≡ s.acts → NoneFell s t → block ≡ s.sectors sector → EventTo outset r event (Got block) s t kept (Get party sector)
+    → SameSectors t.sectors s.sectors → t.acts ≡ s.acts → Follows s t → block ≡ s.sectors sector → EventTo outset r event (Got block) s t kept (Get party sector)
 got laws outset r s t event party sector block kept can asks same acts fell block_is =
     let is = get_asked r.core event party sector (viewed r.core event can) asks in
     makes_so laws outset r event (Got block) s t kept (Get party sector) (record { can = can; hears = is.hears r.disk (Got block) (block_is ∙ kept.sectors sector) }) asks
@@ -82,16 +82,16 @@ nat_apart : (a b : ℕ) → (a == b) ≡ false → a ≡ b → ⊥
 nat_apart a b e is = false≢true (sym e ∙ eq-eqb a b is)
 
 -- what a count makes of its own party's failed call, and of another's
-one_rose : (s t : Outside) (party p : ℕ) → NoneFell s t → OneRose s t party → (b : Bool) → (party == p) ≡ b → IsWithin (s.faults p) (if b then 1 else 0) (t.faults p)
+one_rose : (s t : Outside) (party p : ℕ) → Follows s t → OneRose s t party → (b : Bool) → (party == p) ≡ b → IsWithin (s.faults p) (if b then 1 else 0) (t.faults p)
 one_rose s t party p fell rose true e =
     let same : party ≡ p = eqb-true party p e in subst (λ q. IsWithin (s.faults q) 1 (t.faults q)) same (within_rose (s.faults party) (t.faults party) rose.own)
 one_rose s t party p fell rose false e = within_still (s.faults p) (t.faults p) (fell.faults p)
 
-rises : (s t : Outside) (party p : ℕ) → NoneFell s t → OneRose s t party → IsWithin (s.faults p) (one_of p (Some party)) (t.faults p)
+rises : (s t : Outside) (party p : ℕ) → Follows s t → OneRose s t party → IsWithin (s.faults p) (one_of p (Some party)) (t.faults p)
 rises s t party p fell rose = one_rose s t party p fell rose (party == p) refl
 
 pub get_failed : (laws : CallLaws) (outset : Outset) (r : RunMoment) (s t : Outside) (event : Event) (party sector : ℕ) (kept : RunsTo outset r s) → Can r.core event → call_of r.core event ≡ Get party sector
-    → SameSectors t.sectors s.sectors → t.acts ≡ s.acts → NoneFell s t → OneRose s t party → EventTo outset r event GetFailed s t kept (Get party sector)
+    → SameSectors t.sectors s.sectors → t.acts ≡ s.acts → Follows s t → OneRose s t party → EventTo outset r event GetFailed s t kept (Get party sector)
 get_failed laws outset r s t event party sector kept can asks same acts fell rose =
     let is = get_asked r.core event party sector (viewed r.core event can) asks in
     makes_so laws outset r event GetFailed s t kept (Get party sector) (record { can = can; hears = is.hears r.disk GetFailed tt }) asks
@@ -118,7 +118,7 @@ arrival : (r : RunMoment) (ticket : ℕ) (put : Put) → Can r.core (Arrive tick
 arrival r ticket put can asks = put_asked r.core (Arrive ticket) ticket put (viewed r.core (Arrive ticket) can) asks
 
 pub arrives_written : (laws : CallLaws) (outset : Outset) (r : RunMoment) (s t : Outside) (ticket : ℕ) (put : Put) (kept : RunsTo outset r s) → Can r.core (Arrive ticket) → call_of r.core (Arrive ticket) ≡ MakePut ticket put
-    → NoneFell s t → PutOutcome s t put (Ok taken.Written) → EventTo outset r (Arrive ticket) Written s t kept (MakePut ticket put)
+    → Follows s t → PutOutcome s t put (Ok taken.Written) → EventTo outset r (Arrive ticket) Written s t kept (MakePut ticket put)
 arrives_written laws outset r s t ticket put kept can asks fell outcome =
     let is = arrival r ticket put can asks in
     let own : PutOutcome s t (put_of r.core.now is.flight) (Ok taken.Written) = subst (λ p. PutOutcome s t p (Ok taken.Written)) is.put_is outcome in
@@ -127,7 +127,7 @@ arrives_written laws outset r s t ticket put kept can asks fell outcome =
     (outcome.2 ∙ told_one s.acts (act.Put put taken.Written)) fell (λ p. within_still (s.faults p) (t.faults p) (fell.faults p))
 
 pub arrives_late : (laws : CallLaws) (outset : Outset) (r : RunMoment) (s t : Outside) (ticket : ℕ) (put : Put) (kept : RunsTo outset r s) → Can r.core (Arrive ticket) → call_of r.core (Arrive ticket) ≡ MakePut ticket put
-    → NoneFell s t → PutOutcome s t put (Ok taken.Late) → EventTo outset r (Arrive ticket) Late s t kept (MakePut ticket put)
+    → Follows s t → PutOutcome s t put (Ok taken.Late) → EventTo outset r (Arrive ticket) Late s t kept (MakePut ticket put)
 arrives_late laws outset r s t ticket put kept can asks fell outcome =
     let is = arrival r ticket put can asks in
     let own : PutOutcome s t (put_of r.core.now is.flight) (Ok taken.Late) = subst (λ p. PutOutcome s t p (Ok taken.Late)) is.put_is outcome in
@@ -155,7 +155,7 @@ left_new a b put disk left own same x = go (put.sector.0 == x) refl
     go false e = left.others x (λ is. nat_apart put.sector.0 x e (sym is)) ∙ same x
 
 pub arrives_failed : (laws : CallLaws) (outset : Outset) (r : RunMoment) (s t : Outside) (ticket : ℕ) (put : Put) (kept : RunsTo outset r s) → Can r.core (Arrive ticket) → call_of r.core (Arrive ticket) ≡ MakePut ticket put
-    → NoneFell s t → PutOutcome s t put (Err put_fault.Failed) → FailsTo outset r s t ticket put kept
+    → Follows s t → PutOutcome s t put (Err put_fault.Failed) → FailsTo outset r s t ticket put kept
 arrives_failed laws outset r s t ticket put kept can asks fell outcome = go own.1.own
   where
     is : IsArrival r.core (Arrive ticket) ticket put

@@ -12,17 +12,17 @@ use Rattle.core_transcripts.specs.Within.{RunsAreWithinTheirFaults}
 use Rattle.hall_runs.specs.declared.event.End.{End}
 use Rattle.hall_runs.specs.Outsets.{IsWithin, first_of}
 use Rattle.hall_scripts.specs.Lawful.{IsLawful, WhatIsLeftIsLawful}
-use Rattle.hall_scripts.specs.Runs.{RanFrom, outset_of}
+use Rattle.hall_scripts.specs.Runs.{Beginning, RanFrom, outset_of}
 
 no_more : (n : ℕ) → n ≤ n
 no_more n = omega arith
 
-module _ (script : List Line) (segments : ℕ) (before after : Outside) (over : Option End) (said : ℕ) (ran : RanFrom script segments before after over said) where
+module _ (script : List Line) (from : Beginning) (before after : Outside) (over : Option End) (said : ℕ) (ran : RanFrom script from before after over said) where
   abbrev setting : Setting
-  setting = setting_of script segments 1
+  setting = setting_of script from.segments from.run
 
   abbrev first : RunMoment
-  first = first_of (outset_of script segments ran.opened)
+  first = first_of (outset_of script from ran.opened)
 
   abbrev moment : RunMoment
   moment = ran.kept.moment
@@ -33,7 +33,7 @@ module _ (script : List Line) (segments : ℕ) (before after : Outside) (over : 
   abbrev rise : ℕ → ℕ
   rise party = failed_calls first moment run party
 
-  lawful_run : RunsAreWithinTheirFaults → PutsComeInTime → HoldersAreCompatible → IsNumbered script → IsLawful script segments before after over said ran
+  lawful_run : RunsAreWithinTheirFaults → PutsComeInTime → HoldersAreCompatible → IsNumbered script → IsLawful script from before after over said ran
   lawful_run within timely compatible numbered = record {
     rise = rise;
     counted = λ party. subst (λ n. IsWithin n (rise party) (after.faults party)) (ran.puts.counts.faults party) (ran.kept.is.runs.faults party);
@@ -43,4 +43,4 @@ module _ (script : List Line) (segments : ℕ) (before after : Outside) (over : 
   }
 
 pub lawful : RunsAreWithinTheirFaults → PutsComeInTime → HoldersAreCompatible → WhatIsLeftIsLawful
-lawful within timely compatible script segments before after numbered over said ran = lawful_run script segments before after over said ran within timely compatible numbered
+lawful within timely compatible script from before after numbered over said ran = lawful_run script from before after over said ran within timely compatible numbered

@@ -1,3 +1,4 @@
+pub mod Later
 pub mod Lawful
 pub mod Results
 pub mod Starting

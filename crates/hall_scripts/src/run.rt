@@ -1,19 +1,18 @@
-// A run of a machine on a fresh disk.
+// A run of a machine on a disk.
 ghost use Rattle.std.specs.Prelude.{◌≡◌, ◌<◌, IsTrue, List};
 ghost use Rattle.core_definitions.specs.Runs.{first_state};
 ghost use Rattle.core_definitions.specs.Settings.{setting_of};
-ghost use Rattle.disk_definitions.specs.FreshDisk.{fresh_param};
-ghost use Rattle.disk_definitions.specs.Params.{param_fits};
 ghost use Rattle.frang_base.specs.declared.script.Line.{Line};
 ghost use Rattle.frang_hall.specs.Finishing.{Ran};
 ghost use Rattle.sector_bytes.specs.Sectors.{Sectors};
-ghost use Rattle.hall_scripts.specs.Runs.{Ends, Opens, came_to, opened_by};
+ghost use Rattle.hall_scripts.specs.Runs.{Ends, IsOpened, Opens, beginning_of, came_to, may_begin, opened_by};
 
+use crate::disk::StartDisk;
 use crate::fault::RunFault;
 use frang_base::NoMemory;
 use frang_hall::{Finish, Machine, run_drawn, run_machine};
 use frang_outside::{Gate, Outside};
-use opening::{OpenFault, open_fresh};
+use opening::{OpenFault, open_fresh, open_image};
 use std::sync::Wait;
 use std::thread::Threads;
 
@@ -28,12 +27,23 @@ fn opened_by(opened: Result<(), OpenFault>) -> Result<(), RunFault>
     }
 }
 
-// Puts the opening of a fresh disk.
-fn open<O: Outside>(mut out: O, segments: u32) -> (Result<(), RunFault>, O)
-    requires { IsTrue (param_fits (fresh_param segments)) }
-    ensures { Opens segments (O.state out) (O.state result.1) result.0 }
+// Puts the opening of a disk.
+fn open_disk<O: Outside>(out: &mut O, disk: StartDisk<'_>) -> Result<(), OpenFault>
+    requires { IsTrue (may_begin disk) }
+    ensures { IsOpened disk.entry (O.state out.old) (O.state out.new) result }
 {
-    let opened = open_fresh(&mut out, segments);
+    match disk {
+        StartDisk::Fresh { segments } => open_fresh(out, segments),
+        StartDisk::Image { param, disk } => open_image(out, &param, disk),
+    }
+}
+
+// The same of an outside that is handed back.
+fn open<O: Outside>(mut out: O, disk: StartDisk<'_>) -> (Result<(), RunFault>, O)
+    requires { IsTrue (may_begin disk) }
+    ensures { Opens (beginning_of disk.entry) (O.state out) (O.state result.1) result.0 }
+{
+    let opened = open_disk(&mut out, disk);
     (opened_by(opened), out)
 }
 
@@ -86,7 +96,7 @@ fn came_to(finish: Result<Finish, NoMemory>) -> Result<(), RunFault>
     }
 }
 
-/// Opens a fresh disk of so many segments, and runs a machine from there.
+/// Opens a disk, and runs a machine from there.
 pub(crate) fn run_from<
     R: Threads + Wait + Sync,
     M: Machine + Send,
@@ -95,18 +105,18 @@ pub(crate) fn run_from<
 >(
     rt: &R,
     machine: M,
-    segments: u32,
+    disk: StartDisk<'_>,
     order: Option<u64>,
     workers: u8,
     out: O,
     gate: &G,
 ) -> (Result<(), RunFault>, O)
-    requires disk { IsTrue (param_fits (fresh_param segments)) }
+    requires disk { IsTrue (may_begin disk) }
     requires workers { 0 < workers }
     requires first { (sectors : Sectors) → M.stands machine (first_state (M.setting machine) sectors) }
-    ensures { (script : List Line) → M.setting machine ≡ setting_of script segments 1 → Ends script segments (O.state out) (O.state result.1) result.0 }
+    ensures { (script : List Line) → M.setting machine ≡ setting_of script (beginning_of disk.entry).segments (beginning_of disk.entry).run → Ends script (beginning_of disk.entry) (O.state out) (O.state result.1) result.0 }
 {
-    let (opened, out) = open(out, segments);
+    let (opened, out) = open(out, disk);
     match opened {
         Ok(()) => {
             let (finish, out) = run_in(rt, machine, order, workers, out, gate);

@@ -1,10 +1,9 @@
-// A run of a script on a fresh disk.
+// A run of a script on a disk.
 ghost use Rattle.std.specs.Prelude.{IsTrue};
-ghost use Rattle.disk_definitions.specs.FreshDisk.{fresh_param};
-ghost use Rattle.disk_definitions.specs.Params.{param_fits};
 ghost use Rattle.script_places.specs.Placed.{ascends};
-ghost use Rattle.hall_scripts.specs.Runs.{Ends, Leaves};
+ghost use Rattle.hall_scripts.specs.Runs.{Ends, Leaves, beginning_of, may_begin};
 
+use crate::disk::StartDisk;
 use crate::fault::RunFault;
 use crate::run::run_from;
 use crate::workers::workers_for;
@@ -15,30 +14,30 @@ use std::alloc::Global;
 use std::sync::Wait;
 use std::thread::Threads;
 
-/// Runs a script on a fresh disk of so many segments, 1 to 64, and hands the outside back. Where an order is given one worker runs it, and its number picks the events; else as many
-/// threads as the script names servers, at least one, which call the gate. The numbers of the script's lines ascend. What the other sectors hold isn't looked at; over sectors of zeros
-/// the run is one from the opening of a fresh disk.
+/// Runs a script on a fresh disk of so many segments, 1 to 64, or on that of an image as its next run, and hands the outside back. Where an order is given one worker runs it, and its
+/// number picks the events; else as many threads as the script names servers, at least one, which call the gate. The numbers of the script's lines ascend. What the other sectors hold isn't
+/// looked at; over sectors of zeros the run is one from the opening of that disk.
 ///
 /// The memory of the world is taken first. Then the opening is put, and then the run is made.
 pub fn run_script<R: Threads + Wait + Sync, O: Outside + Send, G: Gate + Sync>(
     rt: &R,
     alloc: Global,
     script: Script,
-    segments: u32,
+    disk: StartDisk<'_>,
     order: Option<u64>,
     out: O,
     gate: &G,
 ) -> (Result<(), RunFault>, O)
     requires script { IsTrue (ascends script) }
-    requires disk { IsTrue (param_fits (fresh_param segments)) }
+    requires disk { IsTrue (may_begin disk) }
     // Each result comes by its cause.
-    ensures ends { Ends script segments (O.state out) (O.state result.1) result.0 }
+    ensures ends { Ends script (beginning_of disk.entry) (O.state out) (O.state result.1) result.0 }
     // Whatever the result, the outside has the opening's puts, or the first of them, and behind them what a run of the core leaves.
-    ensures leaves { Leaves script segments (O.state out) (O.state result.1) }
+    ensures leaves { Leaves script (beginning_of disk.entry) (O.state out) (O.state result.1) }
 {
     let workers = workers_for(script.as_slice());
-    match HallWorld::new(alloc, script, segments, 1) {
-        Ok(machine) => run_from(rt, machine, segments, order, workers, out, gate),
+    match HallWorld::new(alloc, script, disk.segments(), disk.run()) {
+        Ok(machine) => run_from(rt, machine, disk, order, workers, out, gate),
         Err(NoMemory) => (Err(RunFault::NoMemory), out),
     }
 }

@@ -1,5 +1,5 @@
 -- From what was read and what was said to how a command ends.
-use Rattle.std.proofs.Common.{◌≡◌, inl, inr, ⊎_elim, ℕ, ◌≤◌, Option, Some, None, Result, Ok, Err, List, [], length, refl, sym, ◌∙◌, ap, subst, arith}
+use Rattle.std.proofs.Common.{◌≡◌, inl, inr, ⊎_elim, ℕ, ◌≤◌, true, Option, Some, None, Result, Ok, Err, List, [], length, refl, sym, ◌∙◌, ap, subst, arith}
 use Rattle.std.specs.Prelude.{IfOk, Vec}
 use Rattle.std.proofs.lemmas.List.{take_all}
 use Rattle.std.specs.declared.alloc.Global.{Global}
@@ -9,7 +9,8 @@ use Rattle.frang_base.specs.declared.said.Said.{Said}
 use Rattle.frang_outside.specs.Outside.{State, Rose}
 use Rattle.frang_outside.specs.Files.{State as FilesState, Holds, IsFile, OthersStay}
 use Rattle.sector_bytes.specs.Sectors.{SameSectors, Sectors, sectors_of}
-use Rattle.image_file.specs.Images.{Blocks, image_in}
+use Rattle.disk_definitions.specs.Params.{param_in}
+use Rattle.image_file.specs.Images.{Blocks, image_in, may_run_again}
 use Rattle.image_file.specs.declared.refusal.ImageRead.TheVariants as refused
 use Rattle.image_file.specs.Answers.{GivesImage}
 use Rattle.disk_definitions.specs.Replay.{replayed}
@@ -17,13 +18,27 @@ use Rattle.image_commands.specs.declared.end.ImageEnd.{ImageEnd}
 use Rattle.image_commands.specs.declared.end.ImageEnd.TheVariants as end
 use Rattle.image_commands.specs.Saying.{Says, SaysSome, SaysAll}
 use Rattle.image_commands.specs.Lines.{EndsWithTree, IsRecovery, IsTree}
-use Rattle.image_commands.specs.Ends.{IsImageOf, sector_at, Ends, EndsTold, EndsSaving, EndsRecovery, MaySave, OnlySaves}
+use Rattle.image_commands.specs.Ends.{HasBytes, IsImageOf, IsReadAs, sector_at, Ends, EndsTold, EndsSaving, EndsRecovery, MaySave, OnlySaves}
 use Rattle.image_commands.specs.Steps.{ReadsBytes, GivesDisk, ReadsDisk, SaysTold, SavesDisk, SavesAfter, SaysAndSaves, SaysTree, RecoversDisk, TellsDisk}
 
 -- what holds of a file's bytes holds of the file
 file_of : (holds : Option Holds) (name bytes : List ℕ) (P : List ℕ → Type 0) → IsFile holds name (λ now. now ≡ bytes) → P bytes → IsFile holds name P
 file_of None name bytes P f p = tt
 file_of (Some holds) name bytes P f p = (f.0, f.1, subst P (sym f.2) p)
+
+pub has_bytes : (holds : Option Holds) (name bytes : List ℕ) → IsFile holds name (λ now. now ≡ bytes) → HasBytes holds name bytes
+has_bytes None name bytes f = tt
+has_bytes (Some holds) name bytes f = f.1 ∙ ap Some f.2
+
+-- the disk of bytes that were read, if they are an image
+read_as : (told : Option Holds) (name bytes : List ℕ) (blocks : Blocks) → length bytes ≤ IMAGE_BYTES_MAX → IsFile told name (λ now. now ≡ bytes) → image_in bytes ≡ Ok blocks
+    → may_run_again (param_in (sectors_of blocks 0)) ≡ true → IsReadAs told name blocks
+read_as told name bytes blocks few f text again = record { bytes = bytes; holds = has_bytes told name bytes f; short = few; text = text; again = again }
+
+pub read_if : (told : Option Holds) (name bytes : List ℕ) (r : Result Blocks ImageEnd) → length bytes ≤ IMAGE_BYTES_MAX → IsFile told name (λ now. now ≡ bytes) → GivesDisk bytes r
+    → IfOk r (λ blocks. may_run_again (param_in (sectors_of blocks 0)) ≡ true) → IfOk r (λ blocks. IsReadAs told name blocks)
+read_if told name bytes (Ok blocks) few f text again = read_as told name bytes blocks few f text again
+read_if told name bytes (Err e) few f text again = tt
 
 module _ (old new : FilesState) (name : List ℕ) where
   pub disk_read : (bytes : List ℕ) (r : Result Blocks ImageEnd) → length bytes ≤ IMAGE_BYTES_MAX → IsFile old.holds name (λ now. now ≡ bytes) → GivesDisk bytes r → ReadsDisk old new name r

@@ -11,7 +11,7 @@ use Rattle.frang_base.specs.declared.said.Said.TheVariants as said
 use Rattle.frang_outside.specs.declared.act.Act.{Act}
 use Rattle.frang_outside.specs.declared.outside.SayFault.{SayFault}
 use Rattle.frang_outside.specs.declared.outside.SayFault.TheVariants.{Failed, NoMemory as WantsMemory}
-use Rattle.frang_outside.specs.Outside.{State, Rose, NoneFell, told_more}
+use Rattle.frang_outside.specs.Outside.{State, Rose, Follows, told_more}
 use Rattle.disk_reading.specs.Lined.{Gives}
 use Rattle.image_commands.specs.declared.end.ImageEnd.{ImageEnd}
 use Rattle.image_commands.specs.declared.end.ImageEnd.TheVariants as end
@@ -34,7 +34,7 @@ says_more told after lines j x before at is =
     let e : j + 1 ≡ suc j = omega arith in
     subst (Says after) (sym (ap (λ k. take k lines) e ∙ take_next lines j x at)) (says_with told after (take j lines) x before is)
 
-stopped_mute : (old mid new : State) (act : Act) (lines : List Said) (i : ℕ) → i < length lines → NoneFell old mid → Says mid.acts (take i lines) → SaysOne mid new act (Err Failed) → SaysAll old new lines (end.Mute i)
+stopped_mute : (old mid new : State) (act : Act) (lines : List Said) (i : ℕ) → i < length lines → Follows old mid → Says mid.acts (take i lines) → SaysOne mid new act (Err Failed) → SaysAll old new lines (end.Mute i)
 stopped_mute old mid new act lines i l fell says is =
     let before : old.say_faults ≤ mid.say_faults = fell.says in
     let now : Rose mid.say_faults new.say_faults = is.1 in
@@ -44,7 +44,7 @@ stopped_mute old mid new act lines i l fell says is =
 stopped_short : (old mid new : State) (act : Act) (lines : List Said) (i : ℕ) → i < length lines → Says mid.acts (take i lines) → SaysOne mid new act (Err WantsMemory) → SaysAll old new lines end.NoMemory
 stopped_short old mid new act lines i l says is = record { count = i; few = omega arith; says = subst (λ told. Says told (take i lines)) (sym is) says }
 
-pub stopped_so : (old mid new : State) (act : Act) (lines : List Said) (i : ℕ) (fault : SayFault) → i < length lines → NoneFell old mid → Says mid.acts (take i lines) → SaysOne mid new act (Err fault) → SaysAll old new lines (stopped_by i fault)
+pub stopped_so : (old mid new : State) (act : Act) (lines : List Said) (i : ℕ) (fault : SayFault) → i < length lines → Follows old mid → Says mid.acts (take i lines) → SaysOne mid new act (Err fault) → SaysAll old new lines (stopped_by i fault)
 stopped_so old mid new act lines i Failed l fell says is = stopped_mute old mid new act lines i l fell says is
 stopped_so old mid new act lines i WantsMemory l fell says is = stopped_short old mid new act lines i l says is
 
@@ -137,14 +137,14 @@ ends_next old new count r left rest e is g s =
     let none : (left ≡ []) × (rest ≡ []) = gives_so r None left rest is g in
     subst (λ l. SaysNext old new count l rest (Some e)) (sym none.0) (subst (λ t. SaysNext old new count [] t (Some e)) (sym none.1) s)
 
-reached_mute : (old mid new : State) (all : List Said) (i : ℕ) → NoneFell old mid → i < length all → Says mid.acts (take i all) → new.acts ≡ mid.acts → Rose mid.say_faults new.say_faults → SaysAll old new all (end.Mute i)
+reached_mute : (old mid new : State) (all : List Said) (i : ℕ) → Follows old mid → i < length all → Says mid.acts (take i all) → new.acts ≡ mid.acts → Rose mid.say_faults new.say_faults → SaysAll old new all (end.Mute i)
 reached_mute old mid new all i fell less says same now =
     let before : old.say_faults ≤ mid.say_faults = fell.says in
     let rose : Rose old.say_faults new.say_faults = omega arith in
     (less, subst (λ told. Says told (take i all)) (sym same) says, rose)
 
 -- what was said where the command ends
-pub reached_stop : (old mid new : State) (all : List Said) (i : ℕ) (left rest : List Said) (e : ImageEnd) → NoneFell old mid → Reached mid.acts all i left → SaysNext mid new i left rest (Some e) → SaysAll old new all e
+pub reached_stop : (old mid new : State) (all : List Said) (i : ℕ) (left rest : List Said) (e : ImageEnd) → Follows old mid → Reached mid.acts all i left → SaysNext mid new i left rest (Some e) → SaysAll old new all e
 reached_stop old mid new all i left rest end.Done fell r s = reached_end mid.acts new.acts all i left r s.0 s.1
 reached_stop old mid new all i left rest end.NoMemory fell r s = subst (λ told. SaysSome told all) (sym s) (reached_short mid.acts all i left r)
 reached_stop old mid new all i left rest (end.Mute at) fell r s = subst (λ n. SaysAll old new all (end.Mute n)) (sym s.0) (reached_mute old mid new all i fell (reached_less mid.acts all i left r) r.says s.1 s.2)
@@ -159,7 +159,7 @@ reached_more old new all i left rest r s = reached_next old.acts new.acts all i 
 
 -- ---- what is said first, and more behind it
 
-pub says_later : (old mid new : State) (lines : List Said) (e : ImageEnd) → NoneFell old mid → SaysAll mid new lines e → SaysAll old new lines e
+pub says_later : (old mid new : State) (lines : List Said) (e : ImageEnd) → Follows old mid → SaysAll mid new lines e → SaysAll old new lines e
 says_later old mid new lines end.Done fell s = s
 says_later old mid new lines end.NoMemory fell s = s
 says_later old mid new lines (end.Mute said) fell s =

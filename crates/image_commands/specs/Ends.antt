@@ -1,12 +1,13 @@
 -- How commands on images end, and why.
-use Rattle.std.specs.Prelude.{◌≡◌, ◌⊎◌, ◌≤◌, ◌<◌, ℕ, Option, Some, None, unwrap_or, Ok, Err, List, [], length, take, drop, nat_lt, if◌then◌else◌}
+use Rattle.std.specs.Prelude.{◌≡◌, ◌⊎◌, ◌≤◌, ◌<◌, ℕ, true, Option, Some, None, unwrap_or, Ok, Err, List, [], length, take, drop, nat_lt, if◌then◌else◌}
 use Rattle.frang_base.specs.declared.limits.TheConstants.{IMAGE_BYTES_MAX}
 use Rattle.frang_base.specs.declared.said.Said.{Said}
 use Rattle.frang_outside.specs.Outside.{State, Rose}
 use Rattle.frang_outside.specs.Files.{State as FilesState, Holds, IsFile, OthersStay}
 use Rattle.sector_bytes.specs.Bytes.{number_at}
 use Rattle.sector_bytes.specs.Sectors.{SameSectors, sectors_of}
-use Rattle.image_file.specs.Images.{Blocks, image_in, image_text}
+use Rattle.disk_definitions.specs.Params.{param_in}
+use Rattle.image_file.specs.Images.{Blocks, image_in, image_text, may_run_again}
 use Rattle.image_file.specs.declared.refusal.ImageRead.TheVariants as refused
 use Rattle.image_file.specs.Answers.{GivesImage}
 use Rattle.disk_definitions.specs.Replay.{replayed}
@@ -18,6 +19,19 @@ use Rattle.image_commands.specs.Lines.{IsRecovery}
 -- the file, where files are told, is the image of a disk with these sectors
 abbrev pub IsImageOf : Option Holds → List ℕ → Blocks → Type 0
 IsImageOf holds name blocks = IsFile holds name (λ bytes. (length bytes ≤ IMAGE_BYTES_MAX) × (image_in bytes ≡ Ok blocks))
+
+-- a name has a file of these bytes, where files are told
+abbrev pub HasBytes : Option Holds → List ℕ → List ℕ → Type 0
+HasBytes None name bytes = Unit {0}
+HasBytes (Some holds) name bytes = holds name ≡ Some bytes
+
+-- bytes that a file has, where files are told, are the image of a disk with these sectors, which may have another run
+pub record IsReadAs (told : Option Holds) (name : List ℕ) (blocks : Blocks) : Type 0 where
+  pub bytes : List ℕ
+  pub holds : HasBytes told name bytes
+  pub short : length bytes ≤ IMAGE_BYTES_MAX
+  pub text : image_in bytes ≡ Ok blocks
+  pub again : may_run_again (param_in (sectors_of blocks 0)) ≡ true
 
 -- the number that the first bytes are
 abbrev pub first_number : List ℕ → Option ℕ

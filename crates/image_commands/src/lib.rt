@@ -16,4 +16,6 @@ mod sentences;
 pub use asked::do_command;
 pub use commands::{fsck, log, recover, tree};
 pub use end::ImageEnd;
+pub use lines::sound_replay;
+pub use read::read_disk;
 pub use sentences::fault_sentence;

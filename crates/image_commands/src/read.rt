@@ -3,7 +3,8 @@ ghost use Rattle.std.specs.Prelude.{◌≡◌, true, is_some, IfOk};
 ghost use Rattle.frang_outside.specs.Files.{NoneFell};
 ghost use Rattle.sector_bytes.specs.Sectors.{sectors_of};
 ghost use Rattle.disk_definitions.specs.Params.{param_in};
-ghost use Rattle.image_commands.specs.Ends.{first_number, sector_at};
+ghost use Rattle.image_file.specs.Images.{may_run_again};
+ghost use Rattle.image_commands.specs.Ends.{IsReadAs, first_number, sector_at};
 ghost use Rattle.image_commands.specs.Steps.{GivesDisk, ReadsBytes, ReadsDisk};
 
 use crate::end::ImageEnd;
@@ -50,6 +51,7 @@ fn sector_at(at: u64, bytes: &[u8]) -> u64
 fn disk_of(alloc: Global, bytes: &[u8]) -> Result<Disk, ImageEnd>
     ensures gives { GivesDisk bytes.now result }
     ensures parameters { IfOk result (λ disk. is_some (param_in (sectors_of disk 0)) ≡ true) }
+    ensures again { IfOk result (λ disk. may_run_again (param_in (sectors_of disk 0)) ≡ true) }
 {
     match read_image(alloc, bytes) {
         Ok(disk) => Ok(disk),
@@ -62,12 +64,13 @@ fn disk_of(alloc: Global, bytes: &[u8]) -> Result<Disk, ImageEnd>
     }
 }
 
-/// The disk whose image the file is. Its first sector has parameters.
+/// The disk whose image the file is. Its first sector has parameters, whose run another may follow.
 pub fn read_disk<F: Files>(alloc: Global, image: &str, files: &mut F) -> Result<Disk, ImageEnd>
     ensures files { (F.state files.new).holds ≡ (F.state files.old).holds }
     ensures counts { NoneFell (F.state files.old) (F.state files.new) }
     ensures outcome { ReadsDisk (F.state files.old) (F.state files.new) image.now result }
     ensures parameters { IfOk result (λ disk. is_some (param_in (sectors_of disk 0)) ≡ true) }
+    ensures read { IfOk result (λ disk. IsReadAs (F.state files.old).holds image.now disk) }
 {
     match read_bytes(alloc, image, files) {
         Ok(bytes) => disk_of(alloc, &bytes),

@@ -2,7 +2,7 @@
 ghost use Rattle.std.specs.Prelude.{◌≡◌, Some, List, [], ◌∷◌, ◌++◌};
 ghost use Rattle.frang_base.specs.declared.said.Said.{Said as TheSaid};
 ghost use Rattle.frang_base.specs.declared.said.Said.TheVariants as said;
-ghost use Rattle.frang_outside.specs.Outside.{NoneFell};
+ghost use Rattle.frang_outside.specs.Outside.{Follows};
 ghost use Rattle.sector_bytes.specs.Sectors.{sectors_of};
 ghost use Rattle.report_definitions.specs.Laws.{StandsForSome};
 ghost use Rattle.image_commands.specs.Saying.{said_act, Says, SaysOne, SaysAll};
@@ -18,7 +18,7 @@ use std::alloc::Global;
 
 // Says a line.
 fn say_one<O: Outside>(alloc: Global, said: &Said, out: &mut O) -> Result<(), SayFault>
-    ensures counts { NoneFell (O.state out.old) (O.state out.new) }
+    ensures counts { Follows (O.state out.old) (O.state out.new) }
     ensures outcome { SaysOne (O.state out.old) (O.state out.new) (said_act said.now) result }
 {
     let mut text = Vec::new(alloc);
@@ -42,7 +42,7 @@ fn stopped_by(said: u64, fault: SayFault) -> ImageEnd
 /// Says the lines in order, until one isn't said.
 pub fn say_all<O: Outside>(alloc: Global, lines: &[Said], out: &mut O) -> ImageEnd
     requires { Says (O.state out.old).acts [] }
-    ensures counts { NoneFell (O.state out.old) (O.state out.new) }
+    ensures counts { Follows (O.state out.old) (O.state out.new) }
     ensures says { SaysAll (O.state out.old) (O.state out.new) lines.now result }
 {
     for (i, line) in lines.iter().enumerate() {
@@ -56,7 +56,7 @@ pub fn say_all<O: Outside>(alloc: Global, lines: &[Said], out: &mut O) -> ImageE
 
 // Says the first of the lines that are left. How that ends the command, if it does; so many lines were said before.
 fn say_first<O: Outside>(alloc: Global, count: u64, line: &Said, out: &mut O) -> Option<ImageEnd>
-    ensures counts { NoneFell (O.state out.old) (O.state out.new) }
+    ensures counts { Follows (O.state out.old) (O.state out.new) }
     ensures outcome { (rest : List TheSaid) → SaysNext (O.state out.old) (O.state out.new) count (line.now ∷ rest) rest result }
 {
     match say_one(alloc, line, out) {
@@ -67,7 +67,7 @@ fn say_first<O: Outside>(alloc: Global, count: u64, line: &Said, out: &mut O) ->
 
 // Says the end, where no line is left.
 fn say_end<O: Outside>(alloc: Global, count: u64, out: &mut O) -> ImageEnd
-    ensures counts { NoneFell (O.state out.old) (O.state out.new) }
+    ensures counts { Follows (O.state out.old) (O.state out.new) }
     ensures outcome { SaysNext (O.state out.old) (O.state out.new) count [] [] (Some result) }
 {
     match say_one(alloc, &Said::End, out) {
@@ -83,7 +83,7 @@ fn say_next<O: Outside>(
     lines: &mut DiskLines<'_>,
     out: &mut O,
 ) -> Option<ImageEnd>
-    ensures counts { NoneFell (O.state out.old) (O.state out.new) }
+    ensures counts { Follows (O.state out.old) (O.state out.new) }
     ensures outcome { SaysNext (O.state out.old) (O.state out.new) count lines.old lines.new result }
 {
     match lines.next() {

@@ -1,5 +1,5 @@
 // Images by their bytes, and what calls of the program on them tell.
-ghost use Rattle.frang_top.specs.Top.{NothingYet};
+ghost use Rattle.quiet_outside.specs.KeptLines.{NoneTold};
 
 use frang_base::NoMemory;
 use frang_outside::{Act, FileFault, Files, MemFiles, MemOutside, NoGate, Outside};
@@ -98,7 +98,7 @@ pub fn call<R: Threads + Wait + Sync, F: Files, O: Outside + Send>(
     files: &mut F,
     out: O,
 ) -> (Status, O)
-    requires { NothingYet (O.state out).acts }
+    requires { NoneTold (O.state out).acts }
 {
     frang(rt, alloc, words, files, out, &NoGate)
 }

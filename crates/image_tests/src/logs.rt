@@ -59,11 +59,11 @@ fn logs_image(alloc: Global, later: &str) -> Result<Vec<u8>, NoMemory> {
     Ok(image)
 }
 
-fn logs_files(alloc: Global, later: &str) -> Result<MemFiles, NoMemory> {
+pub fn logs_files(alloc: Global, later: &str) -> Result<MemFiles, NoMemory> {
     files_of(alloc, &logs_image(alloc, later)?)
 }
 
-const RECOVERED: &str =
+pub const RECOVERED: &str =
     "! recovered 0 keeps 1.2\n! recovered 1 keeps 1.5\n= / dir 2\n= /a file 0 1\n= /b file 0 1\n! end\n";
 
 const TREE: &str = "= / dir 2\n= /a file 0 1\n= /b file 0 1\n! end\n";
@@ -73,7 +73,7 @@ const BAD_WORDS: Ending = (2, 0, 0);
 const UNREAD: Ending = (4, 1, 0);
 
 // The report of its check.
-const REPORT: &str =
+pub const REPORT: &str =
     "{\"blocks\":1,\"dirs\":1,\"faults\":[],\"files\":2,\"larges\":0,\"links\":0,\"segments\":16,\"stands\":true}\n";
 
 static ROWS: [Row; 36] = [

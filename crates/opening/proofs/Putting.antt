@@ -1,5 +1,6 @@
--- Puts behind puts: what they leave together, and where they stop.
-use Rattle.std.proofs.Common.{◌≡◌, ◌⊎◌, inl, inr, ℕ, ◌<◌, ◌==◌, Bool, true, false, if◌then◌else◌, List, [], ◌∷◌, ◌++◌, Result, Ok, Err, MatchResult, OnOk, refl, sym, ap, ◌∙◌, subst, arith, append_assoc}
+-- Puts behind puts: what they leave together, and where they stop; those of a fresh disk and of an image.
+use Rattle.std.proofs.Common.{◌≡◌, ◌⊎◌, inl, inr, ℕ, ◌<◌, ◌==◌, Bool, true, false, if◌then◌else◌, List, [], ◌∷◌, ◌++◌, Result, Ok, Err, MatchResult, OnOk, refl, sym, ap, ◌∙◌, subst, arith, append_assoc, append-nil}
+use Rattle.std.specs.Prelude.{filter}
 use Rattle.std.proofs.lemmas.Result.{MatchResult-weaker}
 use Rattle.frang_base.specs.declared.limits.TheConstants.{ROOT_INODE}
 use Rattle.frang_base.specs.declared.script.Line.{Line}
@@ -7,26 +8,27 @@ use Rattle.frang_base.specs.declared.sector.Sector.{Sector}
 use Rattle.frang_outside.specs.declared.act.Act.TheVariants as act
 use Rattle.frang_outside.specs.declared.act.Taken.{Taken}
 use Rattle.frang_outside.specs.declared.act.Taken.TheVariants.{Written, Late}
-use Rattle.frang_outside.specs.declared.outside.PutFault.{PutFault}
 use Rattle.frang_outside.specs.declared.outside.PutFault.TheVariants as put
 use Rattle.frang_outside.specs.Disk.{written}
-use Rattle.frang_outside.specs.Outside.{State as Outside, NoneRose, OldOrNew, OneRose, PutOutcome}
+use Rattle.frang_outside.specs.Outside.{State as Outside, Follows, NoneRose, OldOrNew, OneRose, PutOutcome}
 use Rattle.sector_bytes.specs.Blocks.{Block, zero_block}
 use Rattle.sector_bytes.specs.Sectors.{SameSectors, Sectors}
+use Rattle.tree_definitions.specs.Tree.{FileTree}
+use Rattle.disk_definitions.specs.declared.param.Param.{Param}
 use Rattle.disk_definitions.specs.declared.region.Region.TheVariants as region
 use Rattle.disk_definitions.specs.Bitmaps.{bitmap_bytes}
 use Rattle.disk_definitions.specs.FreshDisk.{first_bitmap, fresh_param, root_inode}
 use Rattle.disk_definitions.specs.Inodes.{inode_bytes}
 use Rattle.disk_definitions.specs.Params.{param_bytes}
 use Rattle.disk_definitions.specs.Regions.{sector_of}
-use Rattle.core_definitions.specs.Opening.{Puts, disk_put, fresh_puts, fresh_start, opening_deeds, opening_put, param_put, put_over}
+use Rattle.core_definitions.specs.Opening.{Puts, disk_put, fresh_puts, fresh_start, image_puts, image_start, is_put, next_param, opening_deeds, opening_put, param_put, put_over}
 use Rattle.core_definitions.specs.Runs.{acts_of}
 use Rattle.core_definitions.specs.Scripts.{host_party}
 use Rattle.hall_runs.specs.Outsets.{told_behind}
 use Rattle.hall_runs.proofs.Runs.{acts_append, told_append, told_none, told_one}
-use Rattle.opening.specs.declared.fresh.OpenFault.{OpenFault}
-use Rattle.opening.specs.declared.fresh.OpenFault.TheVariants.{Failed, NoMemory}
-use Rattle.opening.specs.Puts.{HasPut, IsBlank, Refused, StopsAt}
+use Rattle.opening.specs.declared.puts.OpenFault.{OpenFault}
+use Rattle.opening.specs.declared.puts.OpenFault.TheVariants.{Failed, NoMemory}
+use Rattle.opening.specs.Puts.{HasPut, IsBlank, PutSoFar, Refused, StopsAt}
 
 -- ---- sectors
 
@@ -81,33 +83,36 @@ one_behind a b c party f g = record {
 late_never : (t : ℕ) → t < 0 → ⊥
 late_never t h = omega arith
 
-pub put_one : (old new : Outside) (next : ℕ × Block) (taken : Taken) → PutOutcome old new (opening_put next) (Ok taken) → HasPut old new (next ∷ [])
-put_one old new next Written outcome = record {
+pub put_one : (old new : Outside) (next : ℕ × Block) (taken : Taken) → Follows old new → PutOutcome old new (opening_put next) (Ok taken) → HasPut old new (next ∷ [])
+put_one old new next Written follows outcome = record {
   sectors = outcome.1;
   acts = outcome.2 ∙ told_one old.acts (act.Put (opening_put next) Written);
   counts = outcome.3;
+  mark = follows.mark;
 }
-put_one old new next Late outcome = absurd (late_never (opening_put next).stamp outcome.0)
+put_one old new next Late follows outcome = absurd (late_never (opening_put next).stamp outcome.0)
 
 -- at its sector
-pub failed_one : (old new : Outside) (sector : Sector) (block : Block) → PutOutcome old new (opening_put (sector.0, block)) (Err put.Failed) → StopsAt old new ((sector.0, block) ∷ []) (Failed sector)
-failed_one old new sector block outcome = record {
+pub failed_one : (old new : Outside) (sector : Sector) (block : Block) → Follows old new → PutOutcome old new (opening_put (sector.0, block)) (Err put.Failed) → StopsAt old new ((sector.0, block) ∷ []) (Failed sector)
+failed_one old new sector block follows outcome = record {
   made = [];
   next = (sector.0, block);
   left = [];
   parts = refl;
   acts = outcome.2 ∙ sym (told_none old.acts);
   refused = (refl, outcome.1, outcome.3);
+  mark = follows.mark;
 }
 
-pub wanting_one : (old new : Outside) (next : ℕ × Block) → PutOutcome old new (opening_put next) (Err put.NoMemory) → StopsAt old new (next ∷ []) NoMemory
-wanting_one old new next outcome = record {
+pub wanting_one : (old new : Outside) (next : ℕ × Block) → Follows old new → PutOutcome old new (opening_put next) (Err put.NoMemory) → StopsAt old new (next ∷ []) NoMemory
+wanting_one old new next follows outcome = record {
   made = [];
   next = next;
   left = [];
   parts = refl;
   acts = outcome.1 ∙ sym (told_none old.acts);
   refused = (outcome.0, outcome.2);
+  mark = follows.mark;
 }
 
 -- ---- puts behind puts
@@ -117,6 +122,7 @@ put_behind old middle new xs ys first more = record {
   sectors = sectors_behind old.sectors middle.sectors new.sectors xs ys first.sectors more.sectors;
   acts = acts_behind old middle new xs ys first.acts more.acts;
   counts = none_behind old middle new first.counts more.counts;
+  mark = more.mark ∙ first.mark;
 }
 
 either_same : (a b : Sectors) (new : Sectors) (next : ℕ × Block) → SameSectors a b → OldOrNew a new (opening_put next) → OldOrNew b new (opening_put next)
@@ -147,6 +153,7 @@ stops_behind old middle new xs ys fault has stops = record {
   parts = ap (λ r. xs ++ r) stops.parts ∙ sym (append_assoc xs stops.made (stops.next ∷ stops.left));
   acts = acts_behind old middle new xs stops.made has.acts stops.acts;
   refused = refused_behind old middle new xs stops.made stops.next fault has stops.refused;
+  mark = stops.mark ∙ has.mark;
 }
 
 -- more would have followed
@@ -158,6 +165,7 @@ stops_before old new xs ys fault stops = record {
   parts = ap (λ r. r ++ ys) stops.parts ∙ append_assoc stops.made (stops.next ∷ stops.left) ys;
   acts = stops.acts;
   refused = stops.refused;
+  mark = stops.mark;
 }
 
 -- ---- the three of a fresh disk
@@ -199,3 +207,59 @@ module _ (segments : ℕ) (a b : Outside) where
 pub start_made : (segments : ℕ) (a b : Outside) (result : Result (Unit {0}) OpenFault) → MatchResult result (λ done. HasPut a b (fresh_puts segments)) (λ fault. StopsAt a b (fresh_puts segments) fault) →
     OnOk result (IsBlank a → (script : List Line) → SameSectors b.sectors (fresh_start script segments).disk)
 start_made segments a b result made = MatchResult-weaker result made (λ done has blank script. blank_put a b (fresh_puts segments) has blank) (λ fault stops. tt)
+
+-- ---- those of an image
+
+nothing_put : (old : Outside) → HasPut old old []
+nothing_put old = record {
+  sectors = λ s. refl;
+  acts = sym (told_none old.acts);
+  counts = record { faults = λ p. refl; says = refl };
+  mark = refl;
+}
+
+pub none_so_far : (old : Outside) (all : Puts) → PutSoFar old old all all
+none_so_far old all = record { made = []; parts = refl; puts = nothing_put old }
+
+module _ (old now : Outside) (all entries rest : Puts) (sector : ℕ) (block : Block) (steps : entries ≡ (sector, block) ∷ rest) (so_far : PutSoFar old now all (filter is_put entries)) where
+  taken_first : (b : Bool) → is_put (sector, block) ≡ b → filter is_put entries ≡ (if b then (sector, block) ∷ filter is_put rest else filter is_put rest)
+  taken_first b is = ap (filter is_put) steps ∙ ap (λ t. if t then (sector, block) ∷ filter is_put rest else filter is_put rest) is
+
+  pub skipped : is_put (sector, block) ≡ false → PutSoFar old now all (filter is_put rest)
+  skipped is = subst (PutSoFar old now all) (taken_first false is) so_far
+
+  all_parts : is_put (sector, block) ≡ true → all ≡ so_far.made ++ (sector, block) ∷ filter is_put rest
+  all_parts is = so_far.parts ∙ ap (λ left. so_far.made ++ left) (taken_first true is)
+
+  pub one_more_put : (new : Outside) → is_put (sector, block) ≡ true → HasPut now new ((sector, block) ∷ []) → PutSoFar old new all (filter is_put rest)
+  one_more_put new is has = record {
+    made = so_far.made ++ (sector, block) ∷ [];
+    parts = all_parts is ∙ sym (append_assoc so_far.made ((sector, block) ∷ []) (filter is_put rest));
+    puts = put_behind old now new so_far.made ((sector, block) ∷ []) so_far.puts has;
+  }
+
+  pub one_refused : (new : Outside) (fault : OpenFault) → is_put (sector, block) ≡ true → StopsAt now new ((sector, block) ∷ []) fault → StopsAt old new all fault
+  one_refused new fault is stops =
+      subst (λ puts. StopsAt old new puts fault) (append_assoc so_far.made ((sector, block) ∷ []) (filter is_put rest) ∙ sym (all_parts is))
+      (stops_before old new (so_far.made ++ (sector, block) ∷ []) (filter is_put rest) fault (stops_behind old now new so_far.made ((sector, block) ∷ []) fault so_far.puts stops))
+
+pub all_put : (old now : Outside) (all : Puts) → PutSoFar old now all [] → HasPut old now all
+all_put old now all so_far = subst (HasPut old now) (sym (so_far.parts ∙ append-nil so_far.made)) so_far.puts
+
+-- behind the sectors the parameters
+module _ (p : Param) (disk : Puts) (a b c : Outside) (first : HasPut a b (filter is_put disk)) where
+  pub image_made : (param : Block) (result : Result (Unit {0}) OpenFault) → param ≡ param_bytes (next_param p) →
+      MatchResult result (λ done. HasPut b c ((sector_of region.Param, param) ∷ [])) (λ fault. StopsAt b c ((sector_of region.Param, param) ∷ []) fault) →
+      MatchResult result (λ done. HasPut a c (image_puts p disk)) (λ fault. StopsAt a c (image_puts p disk) fault)
+  image_made param result e last =
+      MatchResult-weaker result last
+      (λ done has. put_behind a b c (filter is_put disk) (param_put (next_param p) ∷ []) first (subst (λ block. HasPut b c ((sector_of region.Param, block) ∷ [])) e has))
+      (λ fault stops. stops_behind a b c (filter is_put disk) (param_put (next_param p) ∷ []) fault first (subst (λ block. StopsAt b c ((sector_of region.Param, block) ∷ []) fault) e stops))
+
+pub image_stops : (p : Param) (disk : Puts) (a b : Outside) (fault : OpenFault) → StopsAt a b (filter is_put disk) fault → StopsAt a b (image_puts p disk) fault
+image_stops p disk a b fault stops = stops_before a b (filter is_put disk) (param_put (next_param p) ∷ []) fault stops
+
+-- over sectors of zeros they make the disk from which a run on the image begins
+pub image_start_made : (p : Param) (disk : Puts) (a b : Outside) (result : Result (Unit {0}) OpenFault) → MatchResult result (λ done. HasPut a b (image_puts p disk)) (λ fault. StopsAt a b (image_puts p disk) fault) →
+    OnOk result (IsBlank a → (script : List Line) (tree : FileTree) → SameSectors b.sectors (image_start script p tree disk).disk)
+image_start_made p disk a b result made = MatchResult-weaker result made (λ done has blank script tree. blank_put a b (image_puts p disk) has blank) (λ fault stops. tt)

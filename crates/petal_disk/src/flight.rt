@@ -4,7 +4,7 @@ ghost use Rattle.std.specs.List.{All, slice_get};
 ghost use Rattle.std.specs.Map.{keys_of};
 ghost use Rattle.std.specs.Option.{option_copied, option_map};
 ghost use Rattle.lock_definitions.specs.Lease.{IsInTime};
-ghost use Rattle.frang_outside.specs.Outside.{NoneFell};
+ghost use Rattle.frang_outside.specs.Outside.{Follows};
 ghost use Rattle.petal_disk.specs.Flights.{AreFlights, IsSame, write_at, without, busy_with};
 ghost use Rattle.petal_disk.specs.Flying.{flying_of, has_flights, has_flights_under, left_behind, lost, lost_from, moved, puts, ticket_of};
 ghost use Rattle.petal_disk.specs.Arriving.{IssueOutcome, ArriveOutcome, arriving, left_by};
@@ -317,7 +317,7 @@ impl Flight {
     /// `NoMemory` the write is still in flight; after the other answers it isn't. It takes no memory beside the outside's.
     pub fn arrive<O: Outside>(&mut self, t: Ticket, now: u64, out: &mut O) -> Arrived
         requires { IsSome (write_at self.old.writes t.0) }
-        ensures counts { NoneFell (O.state out.old) (O.state out.new) }
+        ensures counts { Follows (O.state out.old) (O.state out.new) }
         ensures outcome { IfSome (write_at self.old.writes t.0) (λ put. ArriveOutcome (O.state out.old) (O.state out.new) (arriving put now) result) }
         ensures in_time { IfSome (write_at self.old.writes t.0) (λ put. result ≡ Arrived.Written → IsInTime put.stamp now) }
         ensures late { IfSome (write_at self.old.writes t.0) (λ put. put.stamp < now → (result ≡ Arrived.Late put.stamp now) ⊎ (result ≡ Arrived.NoMemory)) }
@@ -348,7 +348,7 @@ impl Flight {
 
 // A write arrives at the outside.
 fn put_once<O: Outside>(put: &Put, out: &mut O) -> Arrived
-    ensures counts { NoneFell (O.state out.old) (O.state out.new) }
+    ensures counts { Follows (O.state out.old) (O.state out.new) }
     ensures outcome { ArriveOutcome (O.state out.old) (O.state out.new) put.entry.now result }
 {
     match out.put(put) {

@@ -1,5 +1,5 @@
 // Calls of the program over files and an outside in memory, and what they say.
-ghost use Rattle.frang_top.specs.Top.{NothingYet};
+ghost use Rattle.quiet_outside.specs.KeptLines.{NoneTold};
 
 use frang_base::NoMemory;
 use frang_outside::{Act, MemFiles, MemOutside, NoGate, Outside};
@@ -61,7 +61,7 @@ pub fn call<R: Threads + Wait + Sync, O: Outside + Send>(
     files: &mut MemFiles,
     out: O,
 ) -> (Status, O)
-    requires { NothingYet (O.state out).acts }
+    requires { NoneTold (O.state out).acts }
 {
     frang(rt, alloc, words, files, out, &NoGate)
 }

@@ -29,10 +29,10 @@ fn the_word_at_fault_is_found(rt: HostRuntime) -> Result<(), Fail> {
     Ok(())
 }
 
-// Words that are no command, what is said of them, and the place of the command that they name, 5 where they name none.
-static WORDS: [(&str, &str, usize); 18] = [
-    ("", "a command is missing", 5),
-    ("walk s", "walk: no command", 5),
+// Words that are no command, what is said of them, and the place of the command that they name, 6 where they name none.
+static WORDS: [(&str, &str, usize); 33] = [
+    ("", "a command is missing", 6),
+    ("walk s", "walk: no command", 6),
     ("run", "SCRIPT is missing", 0),
     ("run s t", "a word too many: t", 0),
     ("run s --segments 65", "--segments 65: 1 to 64", 0),
@@ -47,12 +47,43 @@ static WORDS: [(&str, &str, usize); 18] = [
     ("run s --order 1 --order=1", "--order: given twice", 0),
     ("run s --help", "--help: no option of run", 0),
     ("run -- s --segments", "a word too many: --segments", 0),
+    ("run s --image", "--image: its value is missing", 0),
+    ("run s --image i --image=j", "--image: given twice", 0),
+    (
+        "run s --segments 2 --image i",
+        "--segments: for a fresh disk, not with --image",
+        0,
+    ),
+    (
+        "run s --image=i --segments=2",
+        "--segments: for a fresh disk, not with --image",
+        0,
+    ),
+    ("run s --save f --save g", "--save: given twice", 0),
+    (
+        "run s --save -f",
+        "--save: its value is missing, or is behind = where it begins with -",
+        0,
+    ),
     ("recover", "IMAGE is missing", 1),
+    ("recover i --image j", "--image: no option of recover", 1),
     ("recover i --save", "--save: its value is missing", 1),
     ("tree i --save f", "--save: no option of tree", 2),
     ("log i", "SERVER is missing", 3),
     ("log i 256", "SERVER 256: 0 to 255", 3),
     ("fsck i j", "a word too many: j", 4),
+    ("soak", "N is missing", 5),
+    ("soak x", "N x: 0 to 18446744073709551615", 5),
+    ("soak 07", "N 07: 0 to 18446744073709551615", 5),
+    (
+        "soak 18446744073709551616",
+        "N 18446744073709551616: 0 to 18446744073709551615",
+        5,
+    ),
+    ("soak 7 8", "a word too many: 8", 5),
+    ("soak 7 --order 1", "--order: no option of soak", 5),
+    ("soak 7 --save f", "--save: no option of soak", 5),
+    ("soak --help", "--help: no option of soak", 5),
 ];
 
 #[test]
@@ -61,7 +92,7 @@ fn words_that_are_no_command_are_told(rt: HostRuntime) -> Result<(), Fail> {
         let words = words_in(rt.alloc(), line)?;
         let wrong = what_is_wrong(rt.alloc(), &words)?;
         assert!(rt;
-            wrong.text.as_str() == *wanted && wrong.command.unwrap_or(5) == *place,
+            wrong.text.as_str() == *wanted && wrong.command.unwrap_or(6) == *place,
             "{line}"
         );
     }

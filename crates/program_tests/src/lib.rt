@@ -11,6 +11,8 @@ mod gates;
 #[cfg(test)]
 mod outsides;
 #[cfg(test)]
+mod puts;
+#[cfg(test)]
 mod refusals;
 #[cfg(test)]
 mod rows;

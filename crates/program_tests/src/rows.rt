@@ -153,7 +153,7 @@ static REFUSED: [&str; 23] = [
     "run s --segments 1 --segments=1",
     "run -- s --segments 1",
     "run s --help",
-    "run s --save f",
+    "run s --save f --save=f",
     "run s --segments 0",
     "run s --segments 65",
     "run s --segments 01",

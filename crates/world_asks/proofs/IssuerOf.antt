@@ -31,13 +31,13 @@ SaysRoom lacks oldest room =
     (ring : Ring) → (lacks ≡ true → AreOldest ring (numbers_of oldest)) → (s : ℕ) → member s (numbers_of room) ≡ (lacks && is_oldest_named log_rules ring s)
 
 pub issuing_is : (asked : Asked) (party : Party) (recovery : Option Recovering) (table : Table) (flights : Flights) (tick : ℕ) (lacks : Bool) (oldest room : List Sector) → IsPartyOf asked party
-    → recovery ≡ party.recovery → table ≡ asked.world.locks → flights ≡ asked.world.flights → tick ≡ asked.world.tick → lacks ≡ lacks_room log_rules party.server.server.ring (stage_in asked)
+    → recovery ≡ party.recovery → table.locks ≡ asked.world.locks.locks → flights ≡ asked.world.flights → tick ≡ asked.world.tick → lacks ≡ lacks_room log_rules party.server.server.ring (stage_in asked)
     → (lacks_room log_rules party.server.server.ring (stage_in asked) ≡ true → AreOldest party.server.server.ring (numbers_of oldest)) → SaysRoom lacks oldest room
     → IsIssuing (core_of asked) (record { server = party.server; recovery = recovery; locks = table.locks; flights = flights.flying; tick = tick; waits = lacks; room = numbers_of room })
 unfolding log_rules
 issuing_is asked party recovery table flights tick lacks oldest room of recovery_is table_is flights_are tick_is lacks_so known says = record {
   server = ap (λ n. (core_of asked).servers n) of.number ∙ of.server ∙ ap (λ (o : Option Recovering). record party.server.server { recovery = recovery_in o }) (sym recovery_is);
-  locks = ap (λ (t : Table). t.locks) (sym table_is);
+  locks = sym table_is;
   flights = ap (λ (f : Flights). flights_of f.flying) (sym flights_are);
   tick = sym tick_is;
   logs = refl;

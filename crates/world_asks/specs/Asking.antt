@@ -30,13 +30,17 @@ core_of asked = core_at asked.world
 abbrev pub stage_in : Asked → Option Stage
 stage_in asked = stage (core_of asked) asked.number
 
+-- this is, in code, how far the line of a server has come
+abbrev pub IsStageAt : State → ℕ → Option CodeStage → Type 0
+IsStageAt s a code = OfParty s a (λ party. IsStage party.plan party.server.server code (stage (core_at s) a))
+
 -- it is a server of a world that isn't over, what is kept beside it is up to date, and its stage is the one that was read
 pub record IsAsked (asked : Asked) : Type 0 where
   pub small : asked.number < SERVERS
   pub going : asked.world.over ≡ false
   pub kept : IsKept asked.world
   pub fresh : IsFreshAt asked.world asked.number
-  pub stage : OfParty asked.world asked.number (λ party. IsStage party.plan party.server.server asked.stage (stage_in asked))
+  pub stage : IsStageAt asked.world asked.number asked.stage
 
 -- ---- its party
 

@@ -5,7 +5,7 @@ ghost use Rattle.clerk_cache.specs.Dropping.{numbers_of};
 ghost use Rattle.log_slots.specs.Reading.{log_rules};
 ghost use Rattle.core_definitions.specs.Writes.{lacks_room};
 ghost use Rattle.line_stages.specs.Oldest.{AreOldest};
-ghost use Rattle.world_asks.specs.Asking.{IsPartyOf, stage_in};
+ghost use Rattle.world_asks.specs.Asking.{IsPartyOf, IsStageAt, stage_in};
 ghost use Rattle.world_asks.specs.Fresh.{IsFreshAt};
 ghost use Rattle.world_parties.specs.States.{oldest_of};
 ghost use Rattle.world_parties.specs.declared.party.Party.{Party};
@@ -44,6 +44,18 @@ fn oldest_kept(party: &Party) -> &[Sector]
     }
 }
 
+/// How far the line over paths of a server, 0 to 15, of a world has come, by what is kept beside the server, which is up to date. It takes no memory.
+pub fn stage_at(world: &World, a: ServerId) -> Option<Stage>
+    requires server { a.0 < SERVERS }
+    requires fresh { IsFreshAt world.now a.0 }
+    ensures { IsStageAt world.now a.0 result }
+{
+    // What its type keeps of the plan.
+    let _over = world.is_over();
+    let party = world.parties().get(a);
+    stage_of(world.locks(), &party.server, &party.plan)
+}
+
 impl<'a> Asking<'a> {
     /// A server of a world that isn't over. Its stage is read once, which takes no memory.
     pub fn new(world: &'a World, a: ServerId) -> Asking<'a>
@@ -53,14 +65,21 @@ impl<'a> Asking<'a> {
         ensures world { result.world ≡ world.now }
         ensures number { result.number ≡ a.0 }
     {
-        // What its type keeps of the plan.
+        Asking::staged(world, a, stage_at(world, a))
+    }
+
+    /// The same, where its stage was read before.
+    pub fn staged(world: &'a World, a: ServerId, stage: Option<Stage>) -> Asking<'a>
+        requires server { a.0 < SERVERS }
+        requires going { world.now.over ≡ false }
+        requires fresh { IsFreshAt world.now a.0 }
+        requires stage { IsStageAt world.now a.0 stage }
+        ensures world { result.world ≡ world.now }
+        ensures number { result.number ≡ a.0 }
+    {
+        // What its type keeps.
         let _over = world.is_over();
-        let party = world.parties().get(a);
-        Asking {
-            world,
-            a,
-            stage: stage_of(world.locks(), &party.server, &party.plan),
-        }
+        Asking { world, a, stage }
     }
 
     /// The world.

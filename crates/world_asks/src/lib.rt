@@ -13,6 +13,6 @@ mod slots;
 mod times;
 mod writes;
 
-pub use asking::Asking;
+pub use asking::{Asking, stage_at};
 pub use host::{host_next_issue, host_write};
 pub use refreshing::{refresh, refresh_all};

@@ -21,3 +21,4 @@ pub mod TreeEnds
 pub mod EndRows
 pub mod Ticking
 pub mod Stale
+pub mod Staging

@@ -2,7 +2,7 @@
 ghost use Rattle.std.specs.Prelude.{◌≡◌, ℕ, IfOk, OnOk, true, false};
 ghost use Rattle.core_definitions.specs.Cores.{writes};
 ghost use Rattle.core_definitions.specs.WriteGuards.{may_issue};
-ghost use Rattle.world_list.specs.Going.{IsGoing, IsParty};
+ghost use Rattle.world_list.specs.Going.{AreStages, IsGoing, IsParty};
 ghost use Rattle.world_list.specs.Issuing.{AreCandidates, server_sectors};
 ghost use Rattle.world_list.specs.Wanting.{Joins, rescue_sectors};
 ghost use Rattle.world_parties.specs.States.{IsRecovery, recovering_by, recovery_in, servers_at};
@@ -11,6 +11,7 @@ ghost use Rattle.world_state.specs.States.{core_at};
 use crate::asked::asked;
 use crate::gathering::{join_kept, join_rescues};
 use frang_base::{NoMemory, ServerId};
+use line_stages::Stage;
 use ordered_map::OrderedMap;
 use std::alloc::Global;
 use world_asks::host_next_issue;
@@ -50,13 +51,14 @@ fn join_server(
 }
 
 // Whether a party may issue no write.
-fn is_idle(world: &World, a: ServerId) -> bool
+fn is_idle(world: &World, stages: &[Option<Stage>], a: ServerId) -> bool
     requires going { IsGoing world.now }
+    requires stages { AreStages world.now stages.now }
     requires party { IsParty a.0 }
     ensures { result ≡ true → (sector : ℕ) → may_issue (core_at world.now) a.0 sector (writes (core_at world.now) a.0) ≡ false }
 {
     if is_server(a) {
-        asked(world, a).next_issue().is_none()
+        asked(world, stages, a).next_issue().is_none()
     } else {
         host_next_issue(world).is_none()
     }
@@ -82,13 +84,15 @@ fn gathered(alloc: Global, world: &World, a: ServerId) -> Result<OrderedMap<u64,
 pub(crate) fn candidates(
     alloc: Global,
     world: &World,
+    stages: &[Option<Stage>],
     a: ServerId,
 ) -> Result<OrderedMap<u64, ()>, NoMemory>
     requires going { IsGoing world.now }
+    requires stages { AreStages world.now stages.now }
     requires party { IsParty a.0 }
     ensures { IfOk result (λ sectors. AreCandidates world.now a.0 sectors.entries) }
 {
-    if is_idle(world, a) {
+    if is_idle(world, stages, a) {
         return Ok(OrderedMap::new(alloc));
     }
     gathered(alloc, world, a)

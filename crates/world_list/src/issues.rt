@@ -7,7 +7,7 @@ ghost use Rattle.core_definitions.specs.Enabled.{only};
 ghost use Rattle.core_definitions.specs.Events.{Issue};
 ghost use Rattle.core_definitions.specs.WriteGuards.{may_issue};
 ghost use Rattle.ordered_map.specs.Chunks.{joined};
-ghost use Rattle.world_list.specs.Going.{IsGoing, IsParty};
+ghost use Rattle.world_list.specs.Going.{AreStages, IsGoing, IsParty};
 ghost use Rattle.world_list.specs.Issuing.{may_write};
 ghost use Rattle.world_list.specs.Listing.{Adds, AddsOf};
 ghost use Rattle.world_list.specs.Rows.{party_events};
@@ -19,6 +19,7 @@ use crate::candidates::candidates;
 use crate::pushing::push_if;
 use frang_base::{NoMemory, Sector, ServerId};
 use hall_runs::Event;
+use line_stages::Stage;
 use ordered_map::Chunk;
 use std::alloc::Global;
 use world_asks::{Asking, host_write};
@@ -76,13 +77,14 @@ fn push_pieces(
 }
 
 // The server of a number, or none where it is the host.
-fn writer(world: &World, a: ServerId) -> Option<Asking<'_>>
+fn writer<'a>(world: &'a World, stages: &[Option<Stage>], a: ServerId) -> Option<Asking<'a>>
     requires going { IsGoing world.now }
+    requires stages { AreStages world.now stages.now }
     requires party { IsParty a.0 }
     ensures { (sector : ℕ) → may_write world.now result sector ≡ may_issue (core_at world.now) a.0 sector (writes (core_at world.now) a.0) }
 {
     if is_server(a) {
-        Some(asked(world, a))
+        Some(asked(world, stages, a))
     } else {
         None
     }
@@ -93,12 +95,14 @@ pub(crate) fn push_issues(
     list: &mut Vec<Event>,
     alloc: Global,
     world: &World,
+    stages: &[Option<Stage>],
     a: ServerId,
 ) -> Result<(), NoMemory>
     requires going { IsGoing world.now }
+    requires stages { AreStages world.now stages.now }
     requires party { IsParty a.0 }
     ensures { OnOk result (AddsOf list.old.items list.new.items (party_events world.now rows.Issues a.0)) }
 {
-    let sectors = candidates(alloc, world, a)?;
-    push_pieces(list, world, a, &writer(world, a), sectors.chunks())
+    let sectors = candidates(alloc, world, stages, a)?;
+    push_pieces(list, world, a, &writer(world, stages, a), sectors.chunks())
 }

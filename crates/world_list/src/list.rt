@@ -6,39 +6,72 @@ ghost use Rattle.core_definitions.specs.Enabled.{after_tick, all_parties, before
 ghost use Rattle.hall_runs.specs.Asking.{event_of};
 ghost use Rattle.host_tree.specs.Reading.{HostReading};
 ghost use Rattle.world_list.specs.Fresh.{IsFresh};
-ghost use Rattle.world_list.specs.Going.{IsGoing, IsTreeOf};
+ghost use Rattle.world_list.specs.Going.{AreStages, IsGoing, IsTreeOf};
 ghost use Rattle.world_list.specs.Listing.{events_of};
 ghost use Rattle.world_list.specs.Over.{core_over};
 
 use crate::clock::may_tick;
 use crate::pushing::push_if;
 use crate::rows::{push_ends, push_lines, push_recoveries, push_writes};
+use crate::stages::all_stages;
 use frang_base::NoMemory;
 use hall_runs::Event;
 use host_tree::HostTree;
+use line_stages::Stage;
 use std::alloc::Global;
 use world_state::World;
 
 // The events before Tick.
-fn before_tick(alloc: Global, world: &World) -> Result<Vec<Event>, NoMemory>
-    requires { IsGoing world.now }
+fn before_tick(
+    alloc: Global,
+    world: &World,
+    stages: &[Option<Stage>],
+) -> Result<Vec<Event>, NoMemory>
+    requires going { IsGoing world.now }
+    requires stages { AreStages world.now stages.now }
     ensures { IfOk result (λ list. (tree : HostReading) → events_of list.items ≡ before_tick (core_over world.now tree) (all_parties (core_over world.now tree))) }
 {
     let mut list = Vec::new(alloc);
-    push_lines(&mut list, alloc, world)?;
-    push_writes(&mut list, alloc, world)?;
+    push_lines(&mut list, alloc, world, stages)?;
+    push_writes(&mut list, alloc, world, stages)?;
     Ok(list)
 }
 
 // Those behind it.
-fn after_tick(alloc: Global, world: &World, tree: &HostTree) -> Result<Vec<Event>, NoMemory>
+fn after_tick(
+    alloc: Global,
+    world: &World,
+    stages: &[Option<Stage>],
+    tree: &HostTree,
+) -> Result<Vec<Event>, NoMemory>
     requires going { IsGoing world.now }
+    requires stages { AreStages world.now stages.now }
     requires tree { IsTreeOf world.now tree.now }
     ensures { IfOk result (λ list. events_of list.items ≡ after_tick (core_over world.now tree.now) (all_parties (core_over world.now tree.now))) }
 {
     let mut list = Vec::new(alloc);
-    push_recoveries(&mut list, alloc, world)?;
-    push_ends(&mut list, alloc, world, tree)?;
+    push_recoveries(&mut list, alloc, world, stages)?;
+    push_ends(&mut list, alloc, world, stages, tree)?;
+    Ok(list)
+}
+
+// All events of a world that isn't over, by the stages of its servers.
+fn enabled_by(
+    alloc: Global,
+    world: &World,
+    stages: &[Option<Stage>],
+    tree: &HostTree,
+) -> Result<Vec<Event>, NoMemory>
+    requires going { IsGoing world.now }
+    requires stages { AreStages world.now stages.now }
+    requires tree { IsTreeOf world.now tree.now }
+    ensures { IfOk result (λ list. events_of list.items ≡ enabled (core_over world.now tree.now)) }
+{
+    let mut list = before_tick(alloc, world, stages)?;
+    let behind = after_tick(alloc, world, stages, tree)?;
+    let ticks = may_tick(world, &list, &behind);
+    push_if(&mut list, ticks, Event::Tick)?;
+    list.extend_from_slice(&behind)?;
     Ok(list)
 }
 
@@ -48,12 +81,8 @@ fn enabled_going(alloc: Global, world: &World, tree: &HostTree) -> Result<Vec<Ev
     requires tree { IsTreeOf world.now tree.now }
     ensures { IfOk result (λ list. events_of list.items ≡ enabled (core_over world.now tree.now)) }
 {
-    let mut list = before_tick(alloc, world)?;
-    let behind = after_tick(alloc, world, tree)?;
-    let ticks = may_tick(world, &list, &behind);
-    push_if(&mut list, ticks, Event::Tick)?;
-    list.extend_from_slice(&behind)?;
-    Ok(list)
+    let stages = all_stages(alloc, world)?;
+    enabled_by(alloc, world, &stages, tree)
 }
 
 /// All events that may happen, each once, in the order of the core's table; none where the world is over. What is kept beside its parties and the tree is up to date. Its one refusal is

@@ -2,7 +2,7 @@
 ghost use Rattle.std.specs.Prelude.{◌≡◌, OnOk};
 ghost use Rattle.core_definitions.specs.Cores.{writes};
 ghost use Rattle.core_definitions.specs.WriteGuards.{may_doom};
-ghost use Rattle.world_list.specs.Going.{IsGoing};
+ghost use Rattle.world_list.specs.Going.{AreStages, IsGoing};
 ghost use Rattle.world_list.specs.Listing.{AddsOf};
 ghost use Rattle.world_list.specs.Rows.{party_events};
 ghost use Rattle.world_list.specs.declared.row.Row.TheVariants as rows;
@@ -12,23 +12,31 @@ use crate::asked::asked;
 use crate::pushing::push_if;
 use frang_base::{NoMemory, ServerId};
 use hall_runs::Event;
+use line_stages::Stage;
 use world_parties::is_server;
 use world_state::World;
 
 // Whether a server is to be doomed.
-fn may_doom(world: &World, a: ServerId) -> bool
-    requires { IsGoing world.now }
+fn may_doom(world: &World, stages: &[Option<Stage>], a: ServerId) -> bool
+    requires going { IsGoing world.now }
+    requires stages { AreStages world.now stages.now }
     ensures { result ≡ may_doom (core_at world.now) a.0 (writes (core_at world.now) a.0) }
 {
-    is_server(a) && asked(world, a).may_doom()
+    is_server(a) && asked(world, stages, a).may_doom()
 }
 
 /// Doom.
-pub(crate) fn push_doom(list: &mut Vec<Event>, world: &World, a: ServerId) -> Result<(), NoMemory>
-    requires { IsGoing world.now }
+pub(crate) fn push_doom(
+    list: &mut Vec<Event>,
+    world: &World,
+    stages: &[Option<Stage>],
+    a: ServerId,
+) -> Result<(), NoMemory>
+    requires going { IsGoing world.now }
+    requires stages { AreStages world.now stages.now }
     ensures { OnOk result (AddsOf list.old.items list.new.items (party_events world.now rows.Dooms a.0)) }
 {
-    push_if(list, may_doom(world, a), Event::Doom(a))
+    push_if(list, may_doom(world, stages, a), Event::Doom(a))
 }
 
 /// Resume.

@@ -1,7 +1,7 @@
 // The rows of the list one behind another.
 ghost use Rattle.std.specs.Prelude.{OnOk};
 ghost use Rattle.core_definitions.specs.Enabled.{row_by_row};
-ghost use Rattle.world_list.specs.Going.{IsGoing, IsParty, IsTreeOf};
+ghost use Rattle.world_list.specs.Going.{AreStages, IsGoing, IsParty, IsTreeOf};
 ghost use Rattle.world_list.specs.Listing.{Adds, AddsOf};
 ghost use Rattle.world_list.specs.Rows.{end_rows, line_rows, party_events, recovery_rows, row_events, write_rows};
 
@@ -18,6 +18,7 @@ use frang_base::limits::SERVERS;
 use frang_base::{NoMemory, ServerId};
 use hall_runs::Event;
 use host_tree::HostTree;
+use line_stages::Stage;
 use std::alloc::Global;
 use world_state::World;
 
@@ -28,24 +29,26 @@ fn push_party(
     list: &mut Vec<Event>,
     alloc: Global,
     world: &World,
+    stages: &[Option<Stage>],
     row: Row,
     a: ServerId,
 ) -> Result<(), NoMemory>
     requires going { IsGoing world.now }
+    requires stages { AreStages world.now stages.now }
     requires party { IsParty a.0 }
     ensures { OnOk result (AddsOf list.old.items list.new.items (party_events world.now row a.0)) }
 {
     match row {
         Row::Begins => push_begin(list, world, a),
-        Row::Asks => push_ask(list, world, a),
-        Row::Fetches => push_fetches(list, world, a),
-        Row::Agains => push_again(list, world, a),
-        Row::Clears => push_clear(list, world, a),
-        Row::Commits => push_commit(list, world, a),
-        Row::Answers => push_answer(list, world, a),
+        Row::Asks => push_ask(list, world, stages, a),
+        Row::Fetches => push_fetches(list, world, stages, a),
+        Row::Agains => push_again(list, world, stages, a),
+        Row::Clears => push_clear(list, world, stages, a),
+        Row::Commits => push_commit(list, world, stages, a),
+        Row::Answers => push_answer(list, world, stages, a),
         Row::Gives => push_gives(list, world, a),
-        Row::Issues => push_issues(list, alloc, world, a),
-        Row::Dooms => push_doom(list, world, a),
+        Row::Issues => push_issues(list, alloc, world, stages, a),
+        Row::Dooms => push_doom(list, world, stages, a),
         Row::Resumes => push_resume(list, world, a),
         Row::Dies => push_die(list, world, a),
         Row::Renews => push_renew(list, world, a),
@@ -57,14 +60,21 @@ fn push_party(
 }
 
 // Of all, the host last.
-fn push_row(list: &mut Vec<Event>, alloc: Global, world: &World, row: Row) -> Result<(), NoMemory>
-    requires { IsGoing world.now }
+fn push_row(
+    list: &mut Vec<Event>,
+    alloc: Global,
+    world: &World,
+    stages: &[Option<Stage>],
+    row: Row,
+) -> Result<(), NoMemory>
+    requires going { IsGoing world.now }
+    requires stages { AreStages world.now stages.now }
     ensures { OnOk result (AddsOf list.old.items list.new.items (row_events world.now row)) }
 {
     for a in 0..SERVERS as u8 {
-        push_party(list, alloc, world, row, ServerId(a))?;
+        push_party(list, alloc, world, stages, row, ServerId(a))?;
     }
-    push_party(list, alloc, world, row, ServerId::HOST)
+    push_party(list, alloc, world, stages, row, ServerId::HOST)
 }
 
 // ---- rows one behind another
@@ -74,17 +84,19 @@ pub(crate) fn push_lines(
     list: &mut Vec<Event>,
     alloc: Global,
     world: &World,
+    stages: &[Option<Stage>],
 ) -> Result<(), NoMemory>
-    requires { IsGoing world.now }
+    requires going { IsGoing world.now }
+    requires stages { AreStages world.now stages.now }
     ensures { OnOk result (AddsOf list.old.items list.new.items (λ tree. row_by_row (line_rows world.now tree))) }
 {
-    push_row(list, alloc, world, Row::Begins)?;
-    push_row(list, alloc, world, Row::Asks)?;
-    push_row(list, alloc, world, Row::Fetches)?;
-    push_row(list, alloc, world, Row::Agains)?;
-    push_row(list, alloc, world, Row::Clears)?;
-    push_row(list, alloc, world, Row::Commits)?;
-    push_row(list, alloc, world, Row::Answers)
+    push_row(list, alloc, world, stages, Row::Begins)?;
+    push_row(list, alloc, world, stages, Row::Asks)?;
+    push_row(list, alloc, world, stages, Row::Fetches)?;
+    push_row(list, alloc, world, stages, Row::Agains)?;
+    push_row(list, alloc, world, stages, Row::Clears)?;
+    push_row(list, alloc, world, stages, Row::Commits)?;
+    push_row(list, alloc, world, stages, Row::Answers)
 }
 
 /// The rows of locks, writes and lives.
@@ -92,18 +104,20 @@ pub(crate) fn push_writes(
     list: &mut Vec<Event>,
     alloc: Global,
     world: &World,
+    stages: &[Option<Stage>],
 ) -> Result<(), NoMemory>
-    requires { IsGoing world.now }
+    requires going { IsGoing world.now }
+    requires stages { AreStages world.now stages.now }
     ensures { OnOk result (AddsOf list.old.items list.new.items (λ tree. row_by_row (write_rows world.now tree))) }
 {
-    push_row(list, alloc, world, Row::Gives)?;
-    push_row(list, alloc, world, Row::Issues)?;
-    push_row(list, alloc, world, Row::Dooms)?;
-    push_row(list, alloc, world, Row::Resumes)?;
+    push_row(list, alloc, world, stages, Row::Gives)?;
+    push_row(list, alloc, world, stages, Row::Issues)?;
+    push_row(list, alloc, world, stages, Row::Dooms)?;
+    push_row(list, alloc, world, stages, Row::Resumes)?;
     push_arrives(list, world)?;
     push_loses(list, world)?;
-    push_row(list, alloc, world, Row::Dies)?;
-    push_row(list, alloc, world, Row::Renews)
+    push_row(list, alloc, world, stages, Row::Dies)?;
+    push_row(list, alloc, world, stages, Row::Renews)
 }
 
 /// The rows of recoveries.
@@ -111,14 +125,16 @@ pub(crate) fn push_recoveries(
     list: &mut Vec<Event>,
     alloc: Global,
     world: &World,
+    stages: &[Option<Stage>],
 ) -> Result<(), NoMemory>
-    requires { IsGoing world.now }
+    requires going { IsGoing world.now }
+    requires stages { AreStages world.now stages.now }
     ensures { OnOk result (AddsOf list.old.items list.new.items (λ tree. row_by_row (recovery_rows world.now tree))) }
 {
     push_recovers(list, world)?;
-    push_row(list, alloc, world, Row::Loads)?;
-    push_row(list, alloc, world, Row::Looks)?;
-    push_row(list, alloc, world, Row::Finishes)
+    push_row(list, alloc, world, stages, Row::Loads)?;
+    push_row(list, alloc, world, stages, Row::Looks)?;
+    push_row(list, alloc, world, stages, Row::Finishes)
 }
 
 /// The rows of the host's lines and of the end.
@@ -126,14 +142,16 @@ pub(crate) fn push_ends(
     list: &mut Vec<Event>,
     alloc: Global,
     world: &World,
+    stages: &[Option<Stage>],
     tree: &HostTree,
 ) -> Result<(), NoMemory>
     requires going { IsGoing world.now }
+    requires stages { AreStages world.now stages.now }
     requires tree { IsTreeOf world.now tree.now }
     ensures { OnOk result (Adds list.old.items list.new.items (row_by_row (end_rows world.now tree.now))) }
 {
     push_host_line(list, world)?;
-    push_row(list, alloc, world, Row::Closes)?;
+    push_row(list, alloc, world, stages, Row::Closes)?;
     push_reads(list, world, tree)?;
     push_show(list, world, tree)?;
     push_end(list, world, tree)

@@ -33,9 +33,9 @@ Says setting party table Is =
     (wants_plan table.locks party.server.id party.server.server ≡ true → is_some party.plan ≡ true) → IsKeptBeside setting party.server.server party.plan
     → Is (stage_of setting table.locks party.server.id party.server.server)
 
-module _ (s : State) (a : ℕ) (party : Party) (table : Table) (got : IsGot s.parties a party) (same : table ≡ s.locks) where
+module _ (s : State) (a : ℕ) (party : Party) (table : Table) (got : IsGot s.parties a party) (same : table.locks ≡ s.locks.locks) where
   alike : {X : Type 0} (f : Locks → ℕ → Server → X) → f table.locks party.server.id (server_of party) ≡ f s.locks.locks a (servers_at s.parties a)
-  alike f = ap (λ (t : Table). f t.locks party.server.id (server_of party)) same ∙ ap (λ n. f s.locks.locks n (server_of party)) got.number ∙ ap (f s.locks.locks a) got.server
+  alike f = ap (λ (l : Locks). f l party.server.id (server_of party)) same ∙ ap (λ n. f s.locks.locks n (server_of party)) got.number ∙ ap (f s.locks.locks a) got.server
 
   pub stage_as_read : (Is : Option Stage → Type 0) → IsKept s → (wants_plan s.locks.locks a (servers_at s.parties a) ≡ true → is_some (plan_at s.parties a) ≡ true) → Says (core_at s).setting party table Is → Is (stage (core_at s) a)
   stage_as_read Is kept planned says =

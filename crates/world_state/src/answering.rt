@@ -22,7 +22,7 @@ use crate::world::World;
 use flight_laws::the_mounts_writes_are_the_cores;
 use frang_base::limits::LOG_SECTORS;
 use frang_base::{NoMemory, Op, ServerId};
-use lock_table::LockTable;
+use known_locks::KnownLocks;
 use script_places::Places;
 use server_core::{Arming, PlainAnswer, Under, is_unmount};
 use wal_ring::Ring;
@@ -184,7 +184,7 @@ fn end_line(parties: &mut Parties, a: ServerId, effect: Effect, ring: Option<Rin
 }
 
 // With an unmount the locks are given back.
-fn give_back(locks: &mut LockTable, a: ServerId, effect: Effect)
+fn give_back(locks: &mut KnownLocks, a: ServerId, effect: Effect)
     ensures { locks.new.locks ≡ locks_after effect locks.old.locks a.0 }
 {
     match effect {

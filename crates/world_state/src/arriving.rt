@@ -9,7 +9,7 @@ ghost use Rattle.core_definitions.specs.LineGuards.{is_server};
 ghost use Rattle.core_definitions.specs.Scripts.{host_party};
 ghost use Rattle.core_definitions.specs.WriteEffects.{acknowledged};
 ghost use Rattle.flight_laws.specs.Flights.{purpose_of};
-ghost use Rattle.frang_outside.specs.Outside.{NoneFell};
+ghost use Rattle.frang_outside.specs.Outside.{Follows};
 ghost use Rattle.petal_disk.specs.Arriving.{ArriveOutcome, arriving};
 ghost use Rattle.petal_disk.specs.Flights.{write_at};
 ghost use Rattle.world_parties.specs.States.{Becomes, IsReady, IsSame, Keeps, flags_at, recovering_by, servers_at};
@@ -255,7 +255,7 @@ impl World {
     pub fn arrive<O: Outside>(&mut self, ticket: Ticket, out: &mut O) -> Arrived
         requires flies { is_some (value_at (core_at self.old).flights ticket.0) ≡ true }
         requires room { HasArriveRoom self.old ticket.0 }
-        ensures counts { NoneFell (O.state out.old) (O.state out.new) }
+        ensures counts { Follows (O.state out.old) (O.state out.new) }
         ensures outcome { IfSome (write_at self.old.flights.writes ticket.0) (λ put. ArriveOutcome (O.state out.old) (O.state out.new) (arriving put self.old.tick) result) }
         ensures in_time { IfSome (write_at self.old.flights.writes ticket.0) (λ put. result ≡ Arrived.Written → IsInTime put.stamp self.old.tick) }
         ensures late { IfSome (write_at self.old.flights.writes ticket.0) (λ put. put.stamp < self.old.tick → (result ≡ Arrived.Late put.stamp self.old.tick) ⊎ (result ≡ Arrived.NoMemory)) }

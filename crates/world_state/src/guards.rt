@@ -86,7 +86,7 @@ impl World {
     pub fn is_new_wish(&self, a: ServerId, lock: LockId, mode: Mode) -> bool
         ensures { result ≡ is_new_wish (core_at self.now) a.0 lock mode }
     {
-        !self.locks.is_wished(a, lock, mode) || self.locks.is_free(a, lock, mode)
+        !self.locks.table().is_wished(a, lock, mode) || self.locks.table().is_free(a, lock, mode)
     }
 
     // Whether the line under way of a server has a lock in its held set.
@@ -95,7 +95,8 @@ impl World {
         ensures { result ≡ is_in_use (core_at self.now) a.0 lock }
     {
         match self.parties.get(a).server.under() {
-            Some(under) => under.is_open() && is_among(under.set().held(&self.locks, a), lock),
+            Some(under) => under.is_open()
+                && is_among(under.set().held(self.locks.table(), a), lock),
             None => false,
         }
     }
@@ -112,7 +113,7 @@ impl World {
     fn is_sole(&self, a: ServerId, lock: LockId) -> bool
         ensures { result ≡ is_sole (core_at self.now) a.0 lock }
     {
-        self.locks.held(a, lock) == Some(Mode::Sole)
+        self.locks.table().held(a, lock) == Some(Mode::Sole)
     }
 
     /// Whether a server may give a lock.
@@ -124,7 +125,7 @@ impl World {
         }
         let server = &self.parties.get(a).server;
         server.is_up()
-            && self.locks.asked_for(a, lock).is_some()
+            && self.locks.table().asked_for(a, lock).is_some()
             && !self.is_in_use(a, lock)
             && server.is_clean_under(lock)
             && !self.has_flights_under(a, lock)

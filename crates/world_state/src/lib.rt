@@ -17,6 +17,7 @@ mod lines;
 mod lives;
 mod locks;
 mod recoveries;
+mod restart;
 mod world;
 mod writes;
 

@@ -96,7 +96,7 @@ impl World {
         requires { IsTrue (may_give (core_at self.old) a.0 lock) }
         ensures { core_at self.new ≡ given (core_at self.old) a.0 lock }
     {
-        match self.locks.asked_for(a, lock) {
+        match self.locks.table().asked_for(a, lock) {
             Some(AskedFor::Downgrade) => self.locks.downgrade(a, lock),
             Some(AskedFor::Release) => self.release(a, lock),
             None => unreachable!(),

@@ -41,7 +41,7 @@ impl World {
         let server = &self.parties.get(dead).server;
         server.is_dead()
             && server.expiry() < self.tick
-            && is_hold_over(self.tick, self.locks.log_hold(dead))
+            && is_hold_over(self.tick, self.locks.table().log_hold(dead))
     }
 
     // Whether the log of a server below this one waits.

@@ -11,6 +11,7 @@ ghost use Rattle.world_state.specs.States.{IsKept, core_at};
 use flight_laws::the_mounts_writes_are_the_cores;
 use frang_base::limits::LEASE_TICKS;
 use frang_base::{Line, NoMemory, Script, ServerId};
+use known_locks::KnownLocks;
 use lock_table::LockTable;
 use petal_disk::Flight;
 use script_places::Places;
@@ -25,7 +26,7 @@ pub struct World {
     pub(crate) run: u32,
     pub(crate) tick: u64,
     pub(crate) parties: Parties,
-    pub(crate) locks: LockTable,
+    pub(crate) locks: KnownLocks,
     pub(crate) flights: Flight,
     // So many ticks have passed since every line before the next host line is answered.
     pub(crate) ticks: u64,
@@ -52,7 +53,7 @@ impl World {
     {
         let places = Places::new(alloc, script)?;
         let parties = Parties::new(alloc, segments)?;
-        let locks = LockTable::new(alloc);
+        let locks = KnownLocks::new(alloc);
         let flights = Flight::new(alloc);
         Ok(World {
             places,
@@ -76,9 +77,9 @@ impl World {
 
     /// The locks.
     pub fn locks(&self) -> &LockTable
-        ensures { result.now ≡ self.now.locks }
+        ensures { result.now.locks ≡ self.now.locks.locks }
     {
-        &self.locks
+        self.locks.table()
     }
 
     /// The writes in flight.

@@ -28,9 +28,10 @@ returns c =
     ∙ ap (λ (f : Fields). record f { disable_help_subcommand = true }) (c.disable_help_flag.ensures
     ∙ ap (λ (f : Fields). record f { disable_help_flag = true }) c.no_binary_name.ensures)) in
     let bare : app_of c.subcommand_required-bare.result ≡ bare_line = ap app_of_fields settings ∙ ap with_settings c.new.ensures.app in
-    let log : app_of c.in_ok-log.log ≡ with_command (with_command (with_command (with_command bare_line (codes "run")) (codes "recover")) (codes "tree")) (codes "log") =
-    c.in_ok-log.ensures
+    let fsck : app_of c.in_ok-fsck.fsck ≡ with_command (with_command (with_command (with_command (with_command bare_line (codes "run")) (codes "recover")) (codes "tree")) (codes "log")) (codes "fsck") =
+    c.in_ok-fsck.ensures
+    ∙ ap (λ (a : App). with_command a (codes "fsck")) (c.in_ok-log.ensures
     ∙ ap (λ (a : App). with_command a (codes "log")) (c.in_ok-tree.ensures
     ∙ ap (λ (a : App). with_command a (codes "tree")) (c.in_ok-recover.ensures
-    ∙ ap (λ (a : App). with_command a (codes "recover")) (c.in_ok-run.ensures ∙ ap (λ (a : App). with_command a (codes "run")) bare))) in
-    IfOk-weaker c.with_command-5.result _ _ (λ line is. is ∙ ap (λ (a : App). with_command a (codes "fsck")) log) c.with_command-5.ensures
+    ∙ ap (λ (a : App). with_command a (codes "recover")) (c.in_ok-run.ensures ∙ ap (λ (a : App). with_command a (codes "run")) bare)))) in
+    IfOk-weaker c.with_command-6.result _ _ (λ line is. is ∙ ap (λ (a : App). with_command a (codes "soak")) fsck) c.with_command-6.ensures

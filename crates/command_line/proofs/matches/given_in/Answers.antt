@@ -10,6 +10,7 @@ returns c =
     λ i. record {
       places = texts_found c.get_strs.result f (codes "places") c.get_strs.ensures i;
       segments = texts_found c.get_strs-2.result f (codes "segments") c.get_strs-2.ensures i;
-      save = texts_found c.get_strs-3.result f (codes "save") c.get_strs-3.ensures i;
-      order = texts_found c.get_strs-4.result f (codes "order") c.get_strs-4.ensures i;
+      image = texts_found c.get_strs-3.result f (codes "image") c.get_strs-3.ensures i;
+      save = texts_found c.get_strs-4.result f (codes "save") c.get_strs-4.ensures i;
+      order = texts_found c.get_strs-5.result f (codes "order") c.get_strs-5.ensures i;
     }

@@ -1,33 +1,33 @@
 -- The world of the script is the first core of its setting, and is run from the opening.
-use Rattle.std.proofs.Common.{refl}
+use Rattle.std.proofs.Common.{◌≡◌, ◌∙◌, ◌≤◌, refl, sym, ap₂, subst}
+use Rattle.frang_base.specs.declared.limits.TheConstants.{SEGMENTS_MAX}
+use Rattle.core_definitions.specs.Cores.{first_core}
 use Rattle.core_definitions.specs.Settings.{setting_of}
 use Rattle.hall_world.specs.States.{core_of}
-use Rattle.hall_scripts.specs.Runs.{AtFirst, Untouched}
+use Rattle.hall_scripts.specs.Runs.{AtFirst, Untouched, beginning_of}
 use Rattle.hall_scripts.proofs.Results.{leaves}
 use Rattle.hall_scripts.proofs.Starting.{begins, few, has_setting}
 use Rattle.hall_scripts.proofs.script.run_script.Goals as goal
 
 pub new-requires-clause-disk : goal.new-requires-clause-disk
-new-requires-clause-disk g c = few c.args.segments c.requires.disk
+new-requires-clause-disk g c = subst (λ n. n ≤ SEGMENTS_MAX) (sym c.segments.ensures) (few c.args.disk c.requires.disk)
 
 pub run_from-requires-clause-first : goal.run_from-requires-clause-first
 run_from-requires-clause-first g c =
-    let setting = setting_of c.args.script c.args.segments 1 in
     let made = c.in-Ok.machine.world in
-    λ lives outlives sectors. begins (core_of made) setting c.in-Ok.ensures
+    λ lives outlives sectors. begins (core_of made) (setting_of c.args.script c.segments.result c.run.result) c.in-Ok.ensures
 
 pub returns-in-Ok-clause-ends : goal.returns-in-Ok-clause-ends
 returns-in-Ok-clause-ends g c =
-    let setting = setting_of c.args.script c.args.segments 1 in
+    let from = beginning_of c.args.disk in
     let made = c.in-Ok.machine.world in
-    c.run_from.ensures c.args.script (has_setting (core_of made) setting c.in-Ok.ensures)
+    let is : core_of made ≡ first_core (setting_of c.args.script from.segments from.run) =
+    c.in-Ok.ensures ∙ ap₂ (λ segments run. first_core (setting_of c.args.script segments run)) c.segments.ensures c.run.ensures in
+    c.run_from.ensures c.args.script (has_setting (core_of made) (setting_of c.args.script from.segments from.run) is)
 
 pub returns-in-Ok-clause-leaves : goal.returns-in-Ok-clause-leaves
 returns-in-Ok-clause-leaves g c =
-    let setting = setting_of c.args.script c.args.segments 1 in
-    let made = c.in-Ok.machine.world in
-    leaves c.args.script c.args.segments (g.O.Outside.state c.args.out) (g.O.Outside.state c.run_from.result.1) c.run_from.result.0
-    (c.run_from.ensures c.args.script (has_setting (core_of made) setting c.in-Ok.ensures))
+    leaves c.args.script (beginning_of c.args.disk) (g.O.Outside.state c.args.out) (g.O.Outside.state c.run_from.result.1) c.run_from.result.0 (returns-in-Ok-clause-ends g c)
 
 pub returns-in-Err-clause-ends : goal.returns-in-Err-clause-ends
 returns-in-Err-clause-ends g c = AtFirst refl

@@ -14,5 +14,5 @@ returns-clause-issuing c =
     let P : Issuing → Type 0 = IsIssuing (core_of asked) in
     subst P (sym c.new.ensures)
     (issuing_is asked party (option_copied c.as_ref.result) c.locks.result.now c.flights.result.now c.now.result c.lacks_room-lacks.result c.oldest.result.now c.room_wanted.result.now c.party-party.ensures
-    c.as_ref.ensures.value (c.locks.ensures ∙ ap (λ (w : State). w.locks) c.world-world.ensures) (c.flights.ensures ∙ ap (λ (w : State). w.flights) c.world-world.ensures)
+    c.as_ref.ensures.value (c.locks.ensures ∙ ap (λ (w : State). w.locks.locks) c.world-world.ensures) (c.flights.ensures ∙ ap (λ (w : State). w.flights) c.world-world.ensures)
     (c.now.ensures ∙ ap (λ (w : State). w.tick) c.world-world.ensures) (c.lacks_room-lacks.ensures party c.party-party.ensures) (c.oldest.ensures party c.party-party.ensures) c.room_wanted.ensures)

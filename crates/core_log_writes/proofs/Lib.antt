@@ -1,0 +1,10 @@
+pub mod Furthest
+pub mod Marking
+pub mod Keeping
+pub mod Reaching
+pub mod Acknowledging
+pub mod Failing
+pub mod Going
+pub mod Servers
+pub mod Arriving
+pub mod Issuing

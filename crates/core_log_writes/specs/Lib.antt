@@ -1,0 +1,6 @@
+pub mod Marks
+pub mod LogWrites
+pub mod Issues
+pub mod Arrivals
+pub mod Failures
+pub mod Gone

@@ -1,0 +1,17 @@
+//! What the laws on writes of logs ask of a moment beside its world. Each law is the contract of a public function.
+
+ghost use Rattle.core_log_writes.specs.LogWrites.{LogsBeginOpen};
+ghost use Rattle.core_log_writes.specs.Marks.{EndsAreMarks, EndsBegin};
+
+/// The core marks a dirty sector with the last number of the log at its change, the theorem on sectors with the operation. Where each mark of the core is where the journal has the operation
+/// end, or both are acknowledged, the log is acknowledged up to the one exactly where the operations up to the other are, now and as more is acknowledged. At first nothing is dirty, so it is
+/// so.
+pub fn marks_lie_where_operations_end()
+    ensures begin { EndsBegin }
+    ensures marks { EndsAreMarks }
+{}
+
+/// The log of a dead server stands on the disk as its journal has it while the lease isn't over: at first no server is dead.
+pub fn logs_begin_open()
+    ensures { LogsBeginOpen }
+{}

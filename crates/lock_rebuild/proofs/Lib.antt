@@ -1,0 +1,10 @@
+pub mod Before
+pub mod Claiming
+pub mod Guarding
+pub mod Holding
+pub mod Listing
+pub mod Modes
+pub mod Same
+pub mod Taking
+pub mod Whole
+pub mod Wishing

@@ -1,0 +1,5 @@
+pub mod Guard
+pub mod Lists
+pub mod Missing
+pub mod Rebuilt
+pub mod Steps

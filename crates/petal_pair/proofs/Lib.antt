@@ -1,0 +1,5 @@
+mod Zeros
+pub mod Copying
+pub mod CopyingOn
+pub mod Putting
+pub mod Staying

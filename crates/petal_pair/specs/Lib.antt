@@ -1,0 +1,3 @@
+pub mod PairedCalls
+pub mod PairedCopies
+pub mod Refilling

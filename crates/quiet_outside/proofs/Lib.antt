@@ -1,0 +1,3 @@
+mod KeptExamples
+pub mod Passing
+pub mod Weaving

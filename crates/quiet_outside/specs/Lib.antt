@@ -1,0 +1,4 @@
+pub mod KeptLines
+pub mod QuietAccounts
+pub mod SoakNumbers
+pub mod SoakReports

@@ -1,0 +1,10 @@
+//! An outside that keeps the lines said, over any outside, and the report of a soak on such lines. The contracts promise that what is done to it is done to the outside
+//! below it but for the lines, that it gives back that outside with exactly those lines, and that the report is its definition, byte for byte.
+#![tactic(auto)]
+
+mod numbers;
+mod quiet;
+mod report;
+
+pub use quiet::Quiet;
+pub use report::soak_line;
