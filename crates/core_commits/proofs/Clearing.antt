@@ -47,13 +47,12 @@ use Rattle.sector_world.specs.Steps.{Run, after}
 use Rattle.sector_world.specs.Steps.Event.{Clear}
 use Rattle.sector_world.specs.Steps.Run.{goes, stays}
 use Rattle.sector_world.specs.World.{World, Page, DirtyPage, Slot, Absent, Up, cover, has_version}
-use Rattle.core_world.specs.Events.{LeadsQuietly}
 use Rattle.core_world.specs.Journals.{Journal}
 use Rattle.core_world.specs.Steps.{IsWorldOf}
 use Rattle.core_world.specs.Ties.{AreCached, AreLogged, AreMarked, IsCachedAs, IsMark, IsMarkedAs, IsSlotMark}
 use Rattle.core_world.proofs.Giving.{up_is}
 use Rattle.core_world.proofs.Same.{AreAlike, journals_alike, lives_alike, logged_alike, put_alike, put_as, readings_alike, rescues_alike}
-use Rattle.core_commits.specs.Clears.{BlocksAreCleared, ClearsAreEvents, IsFreshBlock, IsReachedWithAll, cleared_pages, cleared_world}
+use Rattle.core_commits.specs.Clears.{BlocksAreCleared, ClearsAreEvents, IsFreshBlock, IsReachedWithAll, LeadsByClears, cleared_pages, cleared_world}
 use Rattle.core_commits.specs.Standing.{StandsWhole}
 use Rattle.core_commits.proofs.Reclaiming.{up_of}
 
@@ -98,7 +97,7 @@ at_test : (s t : ℕ) → is_at (nat_cmp s) t ≡ nat_eq t s
 at_test s t = grind (arith, nat_tests)
 
 -- the cache with these sectors zeroed
-zeroed_at : (mark segment : ℕ) (sectors : List ℕ) (cache : Cache) (s : ℕ) →
+pub zeroed_at : (mark segment : ℕ) (sectors : List ℕ) (cache : Cache) (s : ℕ) →
     value_at (fold (zeroed mark segment) cache sectors) s ≡ (if member s sectors then Some (dirty zero_block (Segment segment) mark false) else value_at cache s)
 zeroed_at mark segment [] cache s = refl
 zeroed_at mark segment (t ∷ sectors) cache s =
@@ -235,29 +234,31 @@ module _ (s : RunMoment) (w : World) (journal : ℕ → Journal) (tree : FileTre
   up : w.phase a ≡ Up
   up = is.tied.lives.phase a ∙ up_is (s.core.servers a).phase (up_of s.core.setting s.core.locks a (s.core.servers a) (Clearing block) at)
 
-  pub clears : LeadsQuietly w (next s (core.Clear a block) Nothing)
+  pub clears : LeadsByClears w a block (next s (core.Clear a block) Nothing) journal
   clears = record {
-    leads = record {
-      events = map (Clear a) (block_sectors block);
-      world = u;
-      run = cleared_all s.core.setting.segments w tree a block on fresh up;
-      journal = journal;
-      is = record {
-        tied = record {
-          lives = lives_alike (put s.core.servers a new) s.core.servers alike u s.core.now (put_as (λ x. x.expiry) s.core.servers a new refl) is.tied.lives;
-          locks = is.tied.locks;
-          cached = cached_then s.core.setting.segments w tree a block on fresh s.core.servers is.tied.cached is.tied.marked (reached_alike s.core.servers w a is.tied.logged back);
-          marked = marked_then s.core.setting.segments w tree a block on fresh s.core.servers is.tied.cached is.tied.marked (reached_alike s.core.servers w a is.tied.logged back);
-          flying = is.tied.flying;
-          disk = is.tied.disk;
-          rescues = rescues_alike (put s.core.servers a new) s.core.servers alike u is.tied.rescues;
-          logged = logged_alike (put s.core.servers a new) s.core.servers alike u is.tied.logged;
+    untold = record {
+      leads = record {
+        events = map (Clear a) (block_sectors block);
+        world = u;
+        run = cleared_all s.core.setting.segments w tree a block on fresh up;
+        is = record {
+          tied = record {
+            lives = lives_alike (put s.core.servers a new) s.core.servers alike u s.core.now (put_as (λ x. x.expiry) s.core.servers a new refl) is.tied.lives;
+            locks = is.tied.locks;
+            cached = cached_then s.core.setting.segments w tree a block on fresh s.core.servers is.tied.cached is.tied.marked (reached_alike s.core.servers w a is.tied.logged back);
+            marked = marked_then s.core.setting.segments w tree a block on fresh s.core.servers is.tied.cached is.tied.marked (reached_alike s.core.servers w a is.tied.logged back);
+            flying = is.tied.flying;
+            disk = is.tied.disk;
+            rescues = λ e. rescues_alike (put s.core.servers a new) s.core.servers alike u s.core.flights (is.tied.rescues e);
+            logged = logged_alike (put s.core.servers a new) s.core.servers alike u is.tied.logged;
+          };
+          journals = journals_alike (put s.core.servers a new) s.core.servers alike u s.core.now s.core.flights s.disk journal is.journals;
+          readings = readings_alike (put s.core.servers a new) s.core.servers alike u s.core.setting.segments is.readings;
         };
-        journals = journals_alike (put s.core.servers a new) s.core.servers alike u s.core.now s.core.flights s.disk journal is.journals;
-        readings = readings_alike (put s.core.servers a new) s.core.servers alike u s.core.setting.segments is.readings;
       };
+      story = record { servers = refl; opening = refl; logged = refl; first = refl; home = refl; history = refl };
     };
-    story = record { servers = refl; opening = refl; logged = refl; first = refl; home = refl; history = refl };
+    by = refl;
   }
 
 pub blocks_are_cleared : BlocksAreCleared

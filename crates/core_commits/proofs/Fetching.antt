@@ -116,13 +116,12 @@ module _ (s : RunMoment) (w : World) (journal : ℕ → Journal) (a t : ℕ) (lo
         subst (λ r. IsMarkedAs r (w.acked b) (value_at (put servers a fresh b).cache n) (put2 w.slot a t (Clean (w.disk t)) b n) (w.page b n)) (sym (put_as (λ x. x.ring.reached) servers a fresh refl b))
         (each servers a t block lock (λ c k o. IsMarkedAs (servers c).ring.reached (w.acked c) o (put2 w.slot a t (Clean (w.disk t)) c k) (w.page c k)) (λ c k m. at_put2 (λ x. IsMarkedAs (servers c).ring.reached (w.acked c) (value_at (servers c).cache k) x (w.page c k)) w.slot a t (Clean (w.disk t)) c k (λ e i. absurd (m e i)) (λ o. is.tied.marked c k)) tt b n)
 
-    versioned_comes : LeadsQuietly w (next s (Fetch a t) (Got block))
+    versioned_comes : LeadsQuietly w (next s (Fetch a t) (Got block)) journal
     versioned_comes = record {
       leads = record {
         events = sectors.Fetch a t ∷ [];
         world = after w (sectors.Fetch a t);
         run = goes (record { up = up; held = λ none. f.held (ap (w.holds a) f.covered ∙ none); absent = none_versioned }) stays;
-        journal = journal;
         is = subst (λ x. IsWorldOf (record { core = with_server s.core a x; disk = s.disk; record_ = s.record_ ++ [] }) (after w (sectors.Fetch a t)) journal) (sym comes) (record {
           tied = record {
             lives = lives_alike (put servers a fresh) servers alike (after w (sectors.Fetch a t)) s.core.now (put_as (λ x. x.expiry) servers a fresh refl) is.tied.lives;
@@ -131,7 +130,7 @@ module _ (s : RunMoment) (w : World) (journal : ℕ → Journal) (a t : ℕ) (lo
             marked = versioned_marked;
             flying = is.tied.flying;
             disk = is.tied.disk;
-            rescues = rescues_alike (put servers a fresh) servers alike (after w (sectors.Fetch a t)) is.tied.rescues;
+            rescues = λ e. rescues_alike (put servers a fresh) servers alike (after w (sectors.Fetch a t)) s.core.flights (is.tied.rescues e);
             logged = logged_alike (put servers a fresh) servers alike (after w (sectors.Fetch a t)) is.tied.logged;
           };
           journals = journals_alike (put servers a fresh) servers alike (after w (sectors.Fetch a t)) s.core.now s.core.flights s.disk journal is.journals;
@@ -139,6 +138,7 @@ module _ (s : RunMoment) (w : World) (journal : ℕ → Journal) (a t : ℕ) (lo
         });
       };
       story = record { servers = refl; opening = refl; logged = refl; first = refl; home = refl; history = refl };
+      quiet = (tt, tt);
     }
 
   -- a sector of bytes
@@ -168,13 +168,12 @@ module _ (s : RunMoment) (w : World) (journal : ℕ → Journal) (a t : ℕ) (lo
         subst (λ r. IsMarkedAs r (w.acked b) (value_at (put servers a fresh b).cache n) (w.slot b n) (put2 w.page a t (CleanPage (w.bytes t)) b n)) (sym (put_as (λ x. x.ring.reached) servers a fresh refl b))
         (each servers a t block lock (λ c k o. IsMarkedAs (servers c).ring.reached (w.acked c) o (w.slot c k) (put2 w.page a t (CleanPage (w.bytes t)) c k)) (λ c k m. at_put2 (λ x. IsMarkedAs (servers c).ring.reached (w.acked c) (value_at (servers c).cache k) (w.slot c k) x) w.page a t (CleanPage (w.bytes t)) c k (λ e i. absurd (m e i)) (λ o. is.tied.marked c k)) tt b n)
 
-    plain_comes : LeadsQuietly w (next s (Fetch a t) (Got block))
+    plain_comes : LeadsQuietly w (next s (Fetch a t) (Got block)) journal
     plain_comes = record {
       leads = record {
         events = sectors.FetchBytes a t ∷ [];
         world = after w (sectors.FetchBytes a t);
         run = goes (record { up = up; held = λ none. f.held (ap (w.holds a) f.covered ∙ none); absent = no_page; plain = kind; filled = f.filled kind }) stays;
-        journal = journal;
         is = subst (λ x. IsWorldOf (record { core = with_server s.core a x; disk = s.disk; record_ = s.record_ ++ [] }) (after w (sectors.FetchBytes a t)) journal) (sym comes) (record {
           tied = record {
             lives = lives_alike (put servers a fresh) servers alike (after w (sectors.FetchBytes a t)) s.core.now (put_as (λ x. x.expiry) servers a fresh refl) is.tied.lives;
@@ -183,7 +182,7 @@ module _ (s : RunMoment) (w : World) (journal : ℕ → Journal) (a t : ℕ) (lo
             marked = plain_marked;
             flying = is.tied.flying;
             disk = is.tied.disk;
-            rescues = rescues_alike (put servers a fresh) servers alike (after w (sectors.FetchBytes a t)) is.tied.rescues;
+            rescues = λ e. rescues_alike (put servers a fresh) servers alike (after w (sectors.FetchBytes a t)) s.core.flights (is.tied.rescues e);
             logged = logged_alike (put servers a fresh) servers alike (after w (sectors.FetchBytes a t)) is.tied.logged;
           };
           journals = journals_alike (put servers a fresh) servers alike (after w (sectors.FetchBytes a t)) s.core.now s.core.flights s.disk journal is.journals;
@@ -191,12 +190,13 @@ module _ (s : RunMoment) (w : World) (journal : ℕ → Journal) (a t : ℕ) (lo
         });
       };
       story = record { servers = refl; opening = refl; logged = refl; first = refl; home = refl; history = refl };
+      quiet = (tt, tt);
     }
 
-  pub comes_in : LeadsQuietly w (next s (Fetch a t) (Got block))
+  pub comes_in : LeadsQuietly w (next s (Fetch a t) (Got block)) journal
   comes_in = go (has_version w t) refl
     where
-      go : (v : Bool) → has_version w t ≡ v → LeadsQuietly w (next s (Fetch a t) (Got block))
+      go : (v : Bool) → has_version w t ≡ v → LeadsQuietly w (next s (Fetch a t) (Got block)) journal
       go true e = versioned_comes e
       go false e = plain_comes e
 
@@ -248,11 +248,12 @@ module _ (s : RunMoment) (w : World) (journal : ℕ → Journal) (a t : ℕ) (is
         (λ n. is.tied.lives.well b (sym (ap (λ x. x.failed) (put_other s.core.servers a failing b n)) ∙ e) i);
   }
 
-  rescues : AreRescues (put s.core.servers a failing) (after w (sectors.Fail a))
-  rescues = record {
-    under_way = λ by r who e. ⊎_elim (λ r. inl r) (λ stuck. inr (record { has_failed = still_failed by stuck.has_failed; sector = stuck.sector; block = stuck.block; looked = stuck.looked; unwritten = stuck.unwritten }))
-        (is.tied.rescues.under_way by r (works by who) (sym (same (λ x. x.recovery) refl by) ∙ e));
-    known = λ r e. let k = is.tied.rescues.known r e in (k.0, same (λ x. x.recovery) refl r.by ∙ k.1, k.2);
+  rescues : AreRescues s.core.servers s.core.flights w → AreRescues (put s.core.servers a failing) s.core.flights (after w (sectors.Fail a))
+  rescues old = record {
+    under_way = λ by r who e. ⊎_elim (λ r. inl r)
+        (λ stuck. inr (record { has_failed = still_failed by stuck.has_failed; sector = stuck.sector; block = stuck.block; looked = stuck.looked; unwritten = stuck.unwritten; unsent = stuck.unsent }))
+        (old.under_way by r (works by who) (sym (same (λ x. x.recovery) refl by) ∙ e));
+    known = λ r e. let k = old.known r e in (k.0, same (λ x. x.recovery) refl r.by ∙ k.1, k.2);
   }
 
   fails_is : (if life.is_off (s.core.servers a).phase then with_server s.core a (with_under (s.core.servers a) refused_under) else call_failed s.core a) ≡ with_server s.core a failing
@@ -260,13 +261,12 @@ module _ (s : RunMoment) (w : World) (journal : ℕ → Journal) (a t : ℕ) (is
       ap (λ (b : Bool). if b then with_server s.core a (with_under (s.core.servers a) refused_under) else call_failed s.core a) (up_not_off (s.core.servers a).phase up)
       ∙ ap (λ (b : Bool). if b then record s.core { over = true } else with_server s.core a failing) (no_host a server)
 
-  pub fails : LeadsQuietly w (next s (Fetch a t) GetFailed)
+  pub fails : LeadsQuietly w (next s (Fetch a t) GetFailed) journal
   fails = record {
     leads = record {
       events = sectors.Fail a ∷ [];
       world = after w (sectors.Fail a);
       run = goes tt stays;
-      journal = journal;
       is = subst (λ x. IsWorldOf (record { core = x; disk = s.disk; record_ = s.record_ ++ [] }) (after w (sectors.Fail a)) journal) (sym fails_is) (record {
         tied = record {
           lives = lives;
@@ -276,7 +276,7 @@ module _ (s : RunMoment) (w : World) (journal : ℕ → Journal) (a t : ℕ) (is
               (subst (λ r. IsMarkedAs r (w.acked b) (value_at (s.core.servers b).cache n) (w.slot b n) (w.page b n)) (sym (same (λ x. x.ring.reached) refl b)) (is.tied.marked b n));
           flying = is.tied.flying;
           disk = is.tied.disk;
-          rescues = rescues;
+          rescues = λ e. rescues (is.tied.rescues e);
           logged = λ b i. is.tied.logged b (subst IsTrue (same (λ x. is_all_reached x.ring) refl b) i);
         };
         journals = λ b who.
@@ -286,6 +286,7 @@ module _ (s : RunMoment) (w : World) (journal : ℕ → Journal) (a t : ℕ) (is
       });
     };
     story = record { servers = refl; opening = refl; logged = refl; first = refl; home = refl; history = refl };
+    quiet = (tt, tt);
   }
 
 pub failed_fetches_are_events : FailedFetchesAreEvents

@@ -51,9 +51,11 @@ use Rattle.line_histories.proofs.Framed.{lines_framed}
 use Rattle.line_histories.proofs.Guarded.{lines_guarded}
 use Rattle.line_histories.proofs.Lying.{lines_lie}
 use Rattle.line_histories.proofs.Owned.{lines_own}
+use Rattle.line_sectors.specs.Looks.{IsOfFresh}
+use Rattle.line_sectors.proofs.Versions.{lines_look_at_versions}
 use Rattle.core_world.specs.Ties.{AreCached}
 use Rattle.core_world.specs.Sights.{AreStood, shown_at}
-use Rattle.core_commits.specs.Finished.{FinishedLinesAreOutcomes, IsOfFresh, IsOutcomeNow, LinesLookAtVersions, number_in, time_of}
+use Rattle.core_commits.specs.Finished.{FinishedLinesAreOutcomes, IsOutcomeNow, number_in, time_of}
 use Rattle.core_commits.specs.Stages.{IsFinished, sight_in}
 use Rattle.core_commits.specs.Standing.{AreSegmentsOf, AreWhole, StandsWhole, whole_block, whole_disk}
 use Rattle.core_commits.proofs.Claiming.{plain_is_zero}
@@ -98,7 +100,7 @@ module _ (cached : Cached) where
 
 -- ---- what is looked at
 
-module _ (segments : ℕ) (when : ℕ → ℕ) (w : World) (tree : FileTree) (on : StandsWhole segments w tree) (g : Good w) (versions : LinesLookAtVersions segments when) where
+module _ (segments : ℕ) (when : ℕ → ℕ) (w : World) (tree : FileTree) (on : StandsWhole segments w tree) (g : Good w) where
   abbrev naming : Naming
   naming = on.now.stands.naming
 
@@ -133,48 +135,48 @@ module _ (segments : ℕ) (when : ℕ → ℕ) (w : World) (tree : FileTree) (on
     lies : LooksWhereItLies segments naming o
     lies = lines_lie segments when hint n operation (whole_disk w) (shape_of tree) naming o on.whole comes
 
-    agree : (s : ℕ) → IsTrue (looks o s) → whole_disk w s ≡ now_of w s
+    pub agree : (s : ℕ) → IsTrue (looks o s) → whole_disk w s ≡ now_of w s
     agree s look =
         let c : IsCoveredAt segments naming o.uses s = lies.looked s look in
         ⊎_elim (λ v. on.same s (on.follows.kinds s c.sector c.here ∙ sym (same_kind c.sector) ∙ v)) (λ f. fresh_same s c.sector c.here f)
-        (versions hint n operation (whole_disk w) (shape_of tree) naming o on.whole comes s c.sector look c.here)
+        (lines_look_at_versions segments when hint n operation (whole_disk w) (shape_of tree) naming o on.whole comes s c.sector look c.here)
 
     pub comes_now : sector_plan segments when hint n operation (now_of w) ≡ Some o
     comes_now = lines_framed segments when hint n operation (whole_disk w) (now_of w) o comes agree
 
 -- ---- a finished line
 
-module _ (setting : Setting) (when : ℕ → ℕ) (locks : Locks) (servers : ℕ → Server) (a : ℕ) (w : World) (tree : FileTree) (outcome : plans.Outcome) (versions : LinesLookAtVersions setting.segments when)
+module _ (setting : Setting) (when : ℕ → ℕ) (locks : Locks) (servers : ℕ → Server) (a : ℕ) (w : World) (tree : FileTree) (outcome : plans.Outcome)
     (on : StandsWhole setting.segments w tree) (g : Good w) (t : AreCached servers w) (stood : AreStood servers w) (long : AreWhole (servers a).cache) (sorted : Ascend (servers a).cache)
     (f : IsFinished setting locks a (servers a) outcome) (inside : AreSegmentsOf setting.segments f.line.under.set) (ordered : IsStrictlySortedBy lock_cmp (keys_of f.line.under.set))
     (allowed : IsAllowed f.line.operation) (path : HasPath f.line.operation) (small : number_in setting f.line.under.line.number < 2 ^ 64)
     (timely : when (number_in setting f.line.under.line.number) < 2 ^ 64) (time : when (number_in setting f.line.under.line.number) ≡ time_of setting f.line.under.line.number) where
-  abbrev sight : Sight
+  abbrev pub sight : Sight
   sight = sight_in setting (servers a) f.line.under
 
-  abbrev n : ℕ
+  abbrev pub n : ℕ
   n = number_in setting f.line.under.line.number
 
-  abbrev segs : ℕ
+  abbrev pub segs : ℕ
   segs = setting.segments
 
-  of : AreOfDisk sight.cached sight.held sight.all segs (whole_disk w)
+  pub of : AreOfDisk sight.cached sight.held sight.all segs (whole_disk w)
   of = of_disk segs servers w tree a f.line.under.set on t stood long sorted inside f.comes.bitmaps
 
-  ascends : Ascend sight.held
+  pub ascends : Ascend sight.held
   ascends = held_sorted sight.cached (segments_in f.line.under.set) (segments_sorted (keys_of f.line.under.set) ordered)
 
-  met : meet (plan_of_line (hand_of sight.cached sight.held sight.all) n (when n) f.line.operation) (at_hand sight.cached sight.held) ≡ Has (Finishes f.finish)
+  pub met : meet (plan_of_line (hand_of sight.cached sight.held sight.all) n (when n) f.line.operation) (at_hand sight.cached sight.held) ≡ Has (Finishes f.finish)
   met = subst (λ m. meet (plan_of_line (hand_of sight.cached sight.held sight.all) n m f.line.operation) (at_hand sight.cached sight.held) ≡ Has (Finishes f.finish)) (sym time) f.comes.met_is
 
-  abbrev Over : Type 0
+  abbrev pub Over : Type 0
   Over = (o : Outcome) × (sector_plan segs when (keys_of sight.held) n f.line.operation (whole_disk w) ≡ Some o) × IsOutcomeOf segs sight.cached sight.held f.finish o
 
-  over : Over
+  pub over : Over
   over = line_done_is_outcome f.line.operation sight.cached sight.held sight.all segs when n (whole_disk w) (shape_of tree) on.now.stands.naming f.finish allowed path small timely ascends of on.whole met
 
   now_too : sector_plan segs when (keys_of sight.held) n f.line.operation (now_of w) ≡ Some over.0
-  now_too = comes_now segs when w tree on g versions (keys_of sight.held) n f.line.operation over.0 over.1
+  now_too = comes_now segs when w tree on g (keys_of sight.held) n f.line.operation over.0 over.1
 
   pub is_outcome : IsOutcomeNow segs when w sight on.now.stands.naming n f.line.operation f.finish
   is_outcome = record {
@@ -188,5 +190,5 @@ module _ (setting : Setting) (when : ℕ → ℕ) (locks : Locks) (servers : ℕ
   }
 
 pub finished_lines_are_outcomes : FinishedLinesAreOutcomes
-finished_lines_are_outcomes setting when locks servers a w tree outcome versions on g t stood long sorted f inside ordered allowed path small timely time =
-    is_outcome setting when locks servers a w tree outcome versions on g t stood long sorted f inside ordered allowed path small timely time
+finished_lines_are_outcomes setting when locks servers a w tree outcome on g t stood long sorted f inside ordered allowed path small timely time =
+    is_outcome setting when locks servers a w tree outcome on g t stood long sorted f inside ordered allowed path small timely time

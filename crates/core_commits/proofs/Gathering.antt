@@ -1,5 +1,5 @@
 -- At a moment of a run what the laws of Fetch and Clear ask of caches, sets and the one disk is gathered.
-use Rattle.std.proofs.Common.{◌≡◌, ◌&&◌, ◌||◌, ℕ, Bool, true, false, if◌then◌else◌, IsTrue, List, [], ◌∷◌, ◌++◌, Option, Some, None, filter, map, nat_eq, refl, sym, ap, ◌∙◌, subst, ⊎_elim, arith}
+use Rattle.std.proofs.Common.{◌≡◌, ◌<◌, ◌^◌, ◌&&◌, ◌||◌, ℕ, Bool, true, false, if◌then◌else◌, IsTrue, List, [], ◌∷◌, ◌++◌, Option, Some, None, filter, map, nat_eq, refl, sym, ap, ◌∙◌, subst, ⊎_elim, arith}
 use Rattle.std.proofs.lemmas.Bool.{false≢true}
 use Rattle.std.proofs.lemmas.Bool.Decides.{nat_tests}
 use Rattle.std.specs.BTreeMap.{is_at}
@@ -40,12 +40,15 @@ use Rattle.core_commits.specs.Commits.{AreClaimed, AreClaimedClean, IsDoneAs, Wr
 use Rattle.core_definitions.specs.Flights.{each_of_server}
 use Rattle.disk_definitions.specs.Regions.{region_of}
 use Rattle.core_world.specs.Ties.{AreCached, AreFlying, is_log_sector}
-use Rattle.core_commits.specs.Finished.{IsOutcomeNow, LinesLookAtVersions, number_in}
-use Rattle.core_commits.specs.Moments.{ClearsOfLinesAreEvents, CommitsOfLinesKeepTies, CommitsOfLinesMayBeDone, FetchesOfLinesAreEvents, IsNewLine, IsNumbered, IsOfARun, IsOperation, IsKept, LinesAreNumbered, claimed_in, operation_at}
+use Rattle.core_commits.specs.Finished.{IsOutcomeNow, number_in}
+use Rattle.core_commits.specs.Moments.{ClearsOfLinesAreEvents, CommitsOfLinesKeepTies, CommitsOfLinesMayBeDone, FetchesOfLinesAreEvents, FinishedLinesAreDone, IsNumbered, IsOfARun, IsOperation, IsKept, LinesAreNumbered, claimed_in, operation_at}
 use Rattle.core_commits.specs.Operations.{MayBeDone, operation_in}
 use Rattle.core_commits.specs.Stages.{HasCleared, IsFinished, sight_in}
 use Rattle.core_commits.proofs.Claiming.{commits_keep_caches, commits_keep_flights, sectors_are_fetched}
 use Rattle.core_commits.proofs.Finished.{finished_lines_are_outcomes}
+use Rattle.core_commits.proofs.Making.{is_done_as}
+use Rattle.core_commits.proofs.Numbering.{new_now}
+use Rattle.line_locks.specs.Lines.{SetCoversAreTrue}
 use Rattle.core_commits.proofs.Operating.{finished_lines_may_be_done}
 use Rattle.core_laws.specs.Orders.{AreLinesInOrder, CoresAreInOrder}
 use Rattle.core_facts.specs.Blocks.{CachedBlocksAreWhole}
@@ -53,8 +56,7 @@ use Rattle.core_facts.specs.LockSets.{SegmentsAreSole}
 use Rattle.core_world.specs.Events.{LeadsQuietly}
 use Rattle.core_world.specs.Journals.{Journal}
 use Rattle.core_world.specs.Sights.{AreStood}
-use Rattle.core_commits.specs.Clears.{IsReachedWithAll}
-use Rattle.core_commits.specs.Needs.{LinesNeedDirectories}
+use Rattle.core_commits.specs.Clears.{IsReachedWithAll, LeadsByClears}
 use Rattle.core_commits.specs.Standing.{AreWhole, StandsWhole, tree_now}
 use Rattle.core_commits.proofs.Clearing.{clears_are_events}
 use Rattle.core_commits.proofs.Fetching.{fetches_are_events}
@@ -146,28 +148,30 @@ module _ (order : CoresAreInOrder) (cached : CachedBlocksAreWhole) (sole : Segme
   on : StandsWhole s.core.setting.segments w (tree_now when first_tree w)
   on = the_disk_stands s.core.setting.segments when first_tree numbers w m.lines m.good
 
-  pub fetch : (a sector : ℕ) (block : Block) → LinesNeedDirectories → Makes s (core.Fetch a sector) (Got block) → IsTrue (life.is_up (s.core.servers a).phase) →
-      LeadsQuietly w (next s (core.Fetch a sector) (Got block))
-  fetch a sector block directories makes up =
+  pub fetch : (a sector : ℕ) (block : Block) → Makes s (core.Fetch a sector) (Got block) → IsTrue (life.is_up (s.core.servers a).phase) →
+      LeadsQuietly w (next s (core.Fetch a sector) (Got block)) journal
+  fetch a sector block makes up =
       let can : CanFetch s.core a sector = makes.can.can in
       let key = needed_key (stage s.core a) sector (first_of (s.core.servers a).phase (member sector (needed_by (stage s.core a))) _ _ up can.lacks) in
       fetches_are_events s w journal a sector key.0 block m.world m.good makes
-      (needed_sectors_come_in s w (tree_now when first_tree w) a sector key.0 directories on m.world.tied stood (long a) (ascends a) (λ under e. m.sets a under e) key.1)
+      (needed_sectors_come_in s w (tree_now when first_tree w) a sector key.0 on m.world.tied stood (long a) (ascends a) (λ under e. m.sets a under e) key.1)
 
-  pub clear : (a block : ℕ) → Makes s (core.Clear a block) Nothing → IsNewLine s (tree_now when first_tree w) a → IsReachedWithAll s.core.servers w a → LeadsQuietly w (next s (core.Clear a block) Nothing)
-  clear a block makes new back =
+  pub clear : (a block : ℕ) → Makes s (core.Clear a block) Nothing → LinesAreNumbered s w when first_tree numbers a → IsReachedWithAll s.core.servers w a → LeadsByClears w a block (next s (core.Clear a block) Nothing) journal
+  clear a block makes numbered back =
       let can : CanClear s.core a block = makes.can.can in
       let c : HasCleared s.core.setting s.core.locks a (s.core.servers a) block = clearing_lines_have_plans s.core.setting s.core.locks a (s.core.servers a) block can.clear in
-      let q = new c.line.under c.line.operation c.line.is c.line.asked in
+      let q = numbered c.line.under c.line.operation c.line.is c.line.asked in
       clears_are_events s w journal (tree_now when first_tree w) a block m.world on can.clear
       (cleared_blocks_are_fresh s w (tree_now when first_tree w) a block on m.world.tied stood (long a) (ascends a) c (m.sets a c.line.under c.line.is)
-      (λ k mode i. sole setting m.reached.disk s m.reached.run a c.line.under c.line.is k mode i) q.0 q.1 q.2 q.3)
+      (λ k mode i. sole setting m.reached.disk s m.reached.run a c.line.under c.line.is k mode i) q.allowed
+      (new_now s.core.setting.segments when first_tree numbers w m.lines (number_in s.core.setting c.line.under.line.number) q.new q.others) q.new.small
+      (subst (λ k. k < 2 ^ 64) q.time (m.lines.times (number_in s.core.setting c.line.under.line.number))))
       back
 
   set_ordered : (a : ℕ) (under : Under) → (s.core.servers a).under ≡ Some under → IsStrictlySortedBy lock_cmp (keys_of under.set)
   set_ordered a under e = (subst AreLinesInOrder e ((order setting m.reached.disk s m.reached.run).servers a).under).set
 
-  module _ (a : ℕ) (outcome : plans.Outcome) (versions : LinesLookAtVersions s.core.setting.segments when) (at : stage s.core a ≡ Some (Finishing outcome))
+  module _ (a : ℕ) (outcome : plans.Outcome) (at : stage s.core a ≡ Some (Finishing outcome))
       (numbered : LinesAreNumbered s w when first_tree numbers a) where
     f : IsFinished s.core.setting s.core.locks a (s.core.servers a) outcome
     f = finished_lines_have_plans s.core.setting s.core.locks a (s.core.servers a) outcome at
@@ -179,7 +183,7 @@ module _ (order : CoresAreInOrder) (cached : CachedBlocksAreWhole) (sole : Segme
     n = number_in s.core.setting f.line.under.line.number
 
     out : IsOutcomeNow s.core.setting.segments when w (sight_in s.core.setting (s.core.servers a) f.line.under) on.now.stands.naming n f.line.operation f.finish
-    out = finished_lines_are_outcomes s.core.setting when s.core.locks s.core.servers a w (tree_now when first_tree w) outcome versions on m.good m.world.tied.cached stood (long a) (ascends a) f
+    out = finished_lines_are_outcomes s.core.setting when s.core.locks s.core.servers a w (tree_now when first_tree w) outcome on m.good m.world.tied.cached stood (long a) (ascends a) f
         (m.sets a f.line.under f.line.is) (set_ordered a f.line.under f.line.is) q.allowed q.path q.new.small (m.lines.times n) q.time
 
     up : w.phase a ≡ Up
@@ -213,6 +217,18 @@ module _ (order : CoresAreInOrder) (cached : CachedBlocksAreWhole) (sole : Segme
 
     pub commit : IsOperation s w when (tree_now when first_tree w) a outcome
     commit = record { on = on; f = f; out = out; done = done }
+
+  module _ (covers : SetCoversAreTrue) (a : ℕ) (outcome : plans.Outcome) (numbered : LinesAreNumbered s w when first_tree numbers a) (op : IsOperation s w when (tree_now when first_tree w) a outcome) where
+    number : IsNumbered s w when first_tree numbers a op.f.line.under.line.number op.f.line.operation
+    number = numbered op.f.line.under op.f.line.operation op.f.line.is op.f.line.asked
+
+    abbrev its_number : ℕ
+    its_number = number_in s.core.setting op.f.line.under.line.number
+
+    pub done_as : IsDoneAs outcome (operation_at s w when (tree_now when first_tree w) a outcome op) w
+    done_as = is_done_as covers s.core.setting when s.core.locks s.core.servers a w (tree_now when first_tree w) outcome (claimed_in (s.core.servers a).cache op.out.o.claims) op.on m.world.tied.cached stood (long a) (ascends a)
+        op.f (m.sets a op.f.line.under op.f.line.is) op.out number.allowed (new_now s.core.setting.segments when first_tree numbers w m.lines its_number number.new number.others) number.new.small
+        (subst (λ k. k < 2 ^ 64) number.time (m.lines.times its_number))
 
   module _ (a : ℕ) (outcome : plans.Outcome) (at : stage s.core a ≡ Some (Finishing outcome)) (op : IsOperation s w when (tree_now when first_tree w) a outcome)
       (as_done : IsDoneAs outcome (operation_at s w when (tree_now when first_tree w) a outcome op) w) (clean : AreClaimedClean (s.core.servers a).cache (operation_at s w when (tree_now when first_tree w) a outcome op))
@@ -248,13 +264,17 @@ module _ (order : CoresAreInOrder) (cached : CachedBlocksAreWhole) (sole : Segme
     }
 
 pub fetches_of_lines : CoresAreInOrder → CachedBlocksAreWhole → SegmentsAreSole → FetchesOfLinesAreEvents
-fetches_of_lines order cached sole s w journal when first_tree numbers a sector block directories m makes up = fetch order cached sole s w journal when first_tree numbers m a sector block directories makes up
+fetches_of_lines order cached sole s w journal when first_tree numbers a sector block m makes up = fetch order cached sole s w journal when first_tree numbers m a sector block makes up
 
 pub clears_of_lines : CoresAreInOrder → CachedBlocksAreWhole → SegmentsAreSole → ClearsOfLinesAreEvents
-clears_of_lines order cached sole s w journal when first_tree numbers a block m makes new back = clear order cached sole s w journal when first_tree numbers m a block makes new back
+clears_of_lines order cached sole s w journal when first_tree numbers a block m makes numbered back = clear order cached sole s w journal when first_tree numbers m a block makes numbered back
 
 pub commits_of_lines : CoresAreInOrder → CachedBlocksAreWhole → SegmentsAreSole → CommitsOfLinesMayBeDone
-commits_of_lines order cached sole s w journal when first_tree numbers a outcome versions m at numbered = commit order cached sole s w journal when first_tree numbers m a outcome versions at numbered
+commits_of_lines order cached sole s w journal when first_tree numbers a outcome m at numbered = commit order cached sole s w journal when first_tree numbers m a outcome at numbered
 
-pub commits_keep_ties : CoresAreInOrder → CachedBlocksAreWhole → SegmentsAreSole → CommitsOfLinesKeepTies
-commits_keep_ties order cached sole s w journal when first_tree numbers a outcome m at op as_done clean soles = keeps order cached sole s w journal when first_tree numbers m a outcome at op as_done clean soles
+pub lines_are_done : CoresAreInOrder → CachedBlocksAreWhole → SegmentsAreSole → SetCoversAreTrue → FinishedLinesAreDone
+lines_are_done order cached sole covers s w journal when first_tree numbers a outcome m numbered op = done_as order cached sole s w journal when first_tree numbers m covers a outcome numbered op
+
+pub commits_keep_ties : CoresAreInOrder → CachedBlocksAreWhole → SegmentsAreSole → SetCoversAreTrue → CommitsOfLinesKeepTies
+commits_keep_ties order cached sole covers s w journal when first_tree numbers a outcome m at op numbered clean soles =
+    keeps order cached sole s w journal when first_tree numbers m a outcome at op (lines_are_done order cached sole covers s w journal when first_tree numbers a outcome m numbered op) clean soles

@@ -14,5 +14,7 @@ pub mod Finished
 pub mod Needing
 pub mod Freshness
 pub mod Operating
+pub mod Making
+pub mod Numbering
 pub mod Gathering
 pub mod Beginning

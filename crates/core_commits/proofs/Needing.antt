@@ -31,7 +31,7 @@ use Rattle.disk_definitions.specs.FitPlans.{IsFitStore}
 use Rattle.disk_definitions.specs.Held.{bitmap_of}
 use Rattle.disk_definitions.specs.LookedAt.{looked_nodes}
 use Rattle.disk_definitions.specs.Meets.{IsHandOf, is_directory_use}
-use Rattle.disk_definitions.specs.Missing.{first_missing, is_at_hand, unless_missing}
+use Rattle.disk_definitions.specs.Missing.{first_missing, is_at_hand}
 use Rattle.disk_definitions.specs.Naming.{Naming}
 use Rattle.disk_definitions.specs.Numbered.{sector_at, sector_in}
 use Rattle.disk_definitions.specs.OnDisk.{AreOfDisk}
@@ -53,6 +53,8 @@ use Rattle.line_laws.proofs.Asked.{covers_among_are_true}
 use Rattle.line_laws.proofs.AtHand.{agrees}
 use Rattle.line_laws.proofs.Zeroed.{zero_places}
 use Rattle.line_locks.proofs.Numbers.{numbers_tell}
+use Rattle.line_sectors.proofs.AtHand.{missing_is, needs_is}
+use Rattle.line_sectors.proofs.Needed.{lines_need_directories}
 use Rattle.line_histories.specs.Files.{HoldsBytes}
 use Rattle.line_histories.specs.LinePlans.{store_on}
 use Rattle.line_histories.proofs.Filled.{IsInUse, in_use}
@@ -73,7 +75,7 @@ use Rattle.sector_world.specs.World.{World, Page, Slot, cover, has_version}
 use Rattle.core_world.specs.Ties.{AreTied, IsCachedAs}
 use Rattle.core_world.specs.Sights.{AreStood}
 use Rattle.core_commits.specs.Fetches.{IsFetchable}
-use Rattle.core_commits.specs.Needs.{LinesNeedDirectories, NeededSectorsComeIn}
+use Rattle.core_commits.specs.Needs.{NeededSectorsComeIn}
 use Rattle.core_commits.specs.Stages.{ComesTo, IsNeeded, NeedsSectors, nodes_of_line, program_in, sight_in}
 use Rattle.core_commits.specs.Standing.{AreSegmentsOf, AreWhole, StandsWhole, whole_disk}
 use Rattle.core_commits.proofs.Sighting.{held_there, in_set, of_disk, used_has}
@@ -157,26 +159,13 @@ not_log (Some (region.Inode i)) x e = refl
 not_log (Some (region.Small k part)) x e = refl
 not_log (Some (region.Large g part)) x e = refl
 
--- the first that is missing is looked at, and isn't at hand
-missing_is : (c : AtHand) (xs : List Sector) (x : Sector) → first_missing c xs ≡ Some x → Contains xs x × (is_at_hand c x ≡ false)
-missing_is c [] x e = absurd (cc)
-missing_is c (y ∷ ys) x e = go (is_at_hand c y) refl e (missing_is c ys x)
-  where
-    go : (b : Bool) → is_at_hand c y ≡ b → (if b then first_missing c ys else Some y) ≡ Some x → (first_missing c ys ≡ Some x → Contains ys x × (is_at_hand c x ≡ false)) → Contains (y ∷ ys) x × (is_at_hand c x ≡ false)
-    go true i j rest = let r = rest j in (has_more y x ys r.0, r.1)
-    go false i j rest = let same : y ≡ x = cc in (subst (Contains (y ∷ ys)) same (has_head y ys), subst (λ z. is_at_hand c z ≡ false) same i)
-
-needs_is : (o : Option Sector) (v : Plan) (x : Sector) → unless_missing o v ≡ Needs x → o ≡ Some x
-needs_is None v x e = absurd (cc)
-needs_is (Some y) v x e = cc
-
 each_inside : (segments : ℕ) (xs : List Sector) → AreInside segments xs → (x : Sector) → Contains xs x → IsInside segments x
 each_inside segments [] all x c = absurd (not_in_none x c)
 each_inside segments (y ∷ ys) all x c = ⊎_elim (λ e. subst (IsInside segments) e all.0) (λ d. each_inside segments ys all.1 x d) (has_cases y x ys c)
 
 -- ---- a sector that a plan needs
 
-module _ (s : RunMoment) (w : World) (tree : FileTree) (a : ℕ) (directories : LinesNeedDirectories) (on : StandsWhole s.core.setting.segments w tree) (t : AreTied s.core s.disk w)
+module _ (s : RunMoment) (w : World) (tree : FileTree) (a : ℕ) (on : StandsWhole s.core.setting.segments w tree) (t : AreTied s.core s.disk w)
     (stood : AreStood s.core.servers w) (long : AreWhole (s.core.servers a).cache) (sorted : Ascend (s.core.servers a).cache)
     (inside : (under : Under) → (s.core.servers a).under ≡ Some under → AreSegmentsOf s.core.setting.segments under.set) where
   abbrev segments : ℕ
@@ -366,7 +355,7 @@ module _ (s : RunMoment) (w : World) (tree : FileTree) (a : ℕ) (directories : 
       filled (InodeAt i) e at plain = absurd (false≢true (sym plain ∙ on.follows.kinds (number_of (InodeAt i)) (InodeAt i) at))
       filled (SegmentAt k) e at plain = absurd (false≢true (sym plain ∙ on.follows.kinds (number_of (SegmentAt k)) (SegmentAt k) at))
       filled (DirectoryAt k part) e at plain = absurd (false≢true (sym plain ∙ on.follows.kinds (number_of (DirectoryAt k part)) (DirectoryAt k part) at ∙ ap is_directory_use (sym (on.uses k))
-          ∙ directories operation sight.cached sight.held sight.all segments n time disk (shape_of tree) naming k part of on.whole (comes.met_is ∙ ap (λ z. Needs z) e)))
+          ∙ lines_need_directories operation sight.cached sight.held sight.all segments n time disk (shape_of tree) naming k part of on.whole (comes.met_is ∙ ap (λ z. Needs z) e)))
       filled (BytesAt k part) e at plain = on.follows.filled (BytesAt k part) (on_now (BytesAt k part) (lines_look operation h b n time (BytesAt k part) (subst (Contains (looks p b)) e looked)))
       filled (LargeAt g part) e at plain = on.follows.filled (LargeAt g part) (on_now (LargeAt g part) (lines_look operation h b n time (LargeAt g part) (subst (Contains (looks p b)) e looked)))
 
@@ -406,4 +395,4 @@ module _ (s : RunMoment) (w : World) (tree : FileTree) (a : ℕ) (directories : 
       go (Some (Fetching needs)) i e = of_needs needs (fetching_lines_have_plans s.core.setting s.core.locks a server needs i) e
 
 pub needed_sectors_come_in : NeededSectorsComeIn
-needed_sectors_come_in s w tree a number lock directories on t stood long sorted inside needed = all_come s w tree a directories on t stood long sorted inside number lock needed
+needed_sectors_come_in s w tree a number lock on t stood long sorted inside needed = all_come s w tree a on t stood long sorted inside number lock needed

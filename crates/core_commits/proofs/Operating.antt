@@ -196,7 +196,7 @@ module _ (segments : ℕ) (when : ℕ → ℕ) (w : World) (tree : FileTree) (on
           let is : LargeAt g part ≡ y = (let z : Some (LargeAt g part) ≡ Some y = sym here ∙ at in cc) in
           ap (is_versioned b) (sym is)
 
-  lines_read_bytes : LooksWhereItLies segments on.now.stands.naming o → (s : ℕ) → IsTrue (member s o.reads) → has_version w s ≡ false
+  pub lines_read_bytes : LooksWhereItLies segments on.now.stands.naming o → (s : ℕ) → IsTrue (member s o.reads) → has_version w s ≡ false
   lines_read_bytes lies s e =
       let r = filter_from plain (looks program b) s (member_has s (filter_map plain (looks program b)) (subst (λ (q : Outcome). member s q.reads ≡ true) plan.comes.outcome e)) in
       let at = lies.read s e in

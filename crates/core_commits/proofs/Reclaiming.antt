@@ -29,6 +29,7 @@ use Rattle.ring_definitions.specs.declared.ring.Named.{Named}
 use Rattle.core_definitions.specs.Cores.{stage, with_server}
 use Rattle.core_definitions.specs.Effects.{Deed}
 use Rattle.core_definitions.specs.Events.{Again, Nothing}
+use Rattle.core_definitions.specs.Flights.{Flights}
 use Rattle.core_definitions.specs.LineEffects.{again_by, set_anew, set_grown, with_under}
 use Rattle.core_definitions.specs.LineGuards.{CanAgain, is_grown, is_moved, is_oldest_in_place, is_server, may_reclaim}
 use Rattle.core_definitions.specs.Lines.{Finishing, Stage, Under}
@@ -138,9 +139,9 @@ module _ (servers : ℕ → Server) (a : ℕ) (ring : Ring) (reached : ring.reac
   works : (by : ℕ) → IsTrue ((is_server by && life.is_up (then_ by).phase) || by == host_party) → IsTrue ((is_server by && life.is_up (servers by).phase) || by == host_party)
   works by who = subst (λ p. IsTrue ((is_server by && life.is_up p) || by == host_party)) (same (λ x. x.phase) refl by) who
 
-  rescues_on : AreRescues servers w → AreRescues then_ w
-  rescues_on g = record {
-    under_way = λ by r who e. subst (λ f. IsRescueOf by r w.rescue ⊎ IsStuck f r) (sym (same (λ x. x.failed) refl by)) (g.under_way by r (works by who) (sym (same (λ x. x.recovery) refl by) ∙ e));
+  rescues_on : (flights : Flights) → AreRescues servers flights w → AreRescues then_ flights w
+  rescues_on flights g = record {
+    under_way = λ by r who e. subst (λ f. IsRescueOf by r w.rescue ⊎ IsStuck by flights f r) (sym (same (λ x. x.failed) refl by)) (g.under_way by r (works by who) (sym (same (λ x. x.recovery) refl by) ∙ e));
     known = λ r e. let k = g.known r e in (k.0, same (λ x. x.recovery) refl r.by ∙ k.1, k.2);
   }
 
@@ -223,7 +224,7 @@ module _ (s : RunMoment) (w : World) (a k : ℕ) (outcome : Outcome) (t : AreTie
       marked = marked_on s.core.servers a ring refl refl (after w (Reclaim a k)) t.marked;
       flying = t.flying;
       disk = t.disk;
-      rescues = rescues_on s.core.servers a ring refl refl (after w (Reclaim a k)) t.rescues;
+      rescues = λ e. rescues_on s.core.servers a ring refl refl (after w (Reclaim a k)) s.core.flights (t.rescues e);
       logged = logged_on s.core.servers a ring refl refl (after w (Reclaim a k)) t.logged;
     });
   }
@@ -255,7 +256,7 @@ module _ (s : RunMoment) (w : World) (journal : ℕ → Journal) (a : ℕ) (is :
       marked = marked_alike (put s.core.servers a changed) s.core.servers alike w cache_same is.tied.marked;
       flying = is.tied.flying;
       disk = is.tied.disk;
-      rescues = rescues_alike (put s.core.servers a changed) s.core.servers alike w is.tied.rescues;
+      rescues = λ e. rescues_alike (put s.core.servers a changed) s.core.servers alike w s.core.flights (is.tied.rescues e);
       logged = logged_alike (put s.core.servers a changed) s.core.servers alike w is.tied.logged;
     };
     journals = journals_alike (put s.core.servers a changed) s.core.servers alike w s.core.now s.core.flights s.disk journal is.journals;
@@ -265,8 +266,8 @@ module _ (s : RunMoment) (w : World) (journal : ℕ → Journal) (a : ℕ) (is :
 no_story : (w : World) → IsSameStory w w
 no_story w = record { servers = refl; opening = refl; logged = refl; first = refl; home = refl; history = refl }
 
-pub none_leads : (w : World) (journal : ℕ → Journal) (v : RunMoment) → IsWorldOf v w journal → LeadsQuietly w v
-none_leads w journal v is = record { leads = record { events = []; world = w; run = stays; journal = journal; is = is }; story = no_story w }
+pub none_leads : (w : World) (journal : ℕ → Journal) (v : RunMoment) → IsWorldOf v w journal → LeadsQuietly w v journal
+none_leads w journal v is = record { leads = record { events = []; world = w; run = stays; is = is }; story = no_story w; quiet = tt }
 
 pub moves_are_none : MovesAreNone
 moves_are_none s w journal a is at =

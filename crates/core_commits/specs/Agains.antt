@@ -45,10 +45,10 @@ AgainsReclaim =
 
 -- a set that begins anew
 abbrev pub MovesAreNone : Type 0
-MovesAreNone = (s : RunMoment) (w : World) (journal : ℕ → Journal) (a : ℕ) → IsWorldOf s w journal → stage s.core a ≡ Some Moving → LeadsQuietly w (next s (Again a) Nothing)
+MovesAreNone = (s : RunMoment) (w : World) (journal : ℕ → Journal) (a : ℕ) → IsWorldOf s w journal → stage s.core a ≡ Some Moving → LeadsQuietly w (next s (Again a) Nothing) journal
 
 -- and one that grows
 abbrev pub GrowthsAreNone : Type 0
 GrowthsAreNone =
     (s : RunMoment) (w : World) (journal : ℕ → Journal) (a : ℕ) (needs : List Lock) (seen : SeenSectors) → IsWorldOf s w journal → stage s.core a ≡ Some (Growing needs seen) →
-    LeadsQuietly w (next s (Again a) Nothing)
+    LeadsQuietly w (next s (Again a) Nothing) journal

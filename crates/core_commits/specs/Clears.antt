@@ -20,7 +20,7 @@ use Rattle.sector_world.specs.Steps.{Run}
 use Rattle.sector_world.specs.Steps.Event.{Clear}
 use Rattle.sector_world.specs.World.{World, Page, DirtyPage, Up}
 use Rattle.line_histories.specs.LinePlans.{store_on}
-use Rattle.core_world.specs.Events.{LeadsQuietly}
+use Rattle.core_world.specs.Events.{LeadsUntold}
 use Rattle.core_world.specs.Journals.{Journal}
 use Rattle.core_world.specs.Steps.{IsWorldOf}
 use Rattle.core_commits.specs.Standing.{StandsWhole}
@@ -54,8 +54,13 @@ BlocksAreCleared =
 abbrev pub IsReachedWithAll : (ℕ → Server) → World → ℕ → Type 0
 IsReachedWithAll servers w a = w.last a ≤ w.acked a → IsTrue (is_all_reached (servers a).ring)
 
--- a Clear leads quietly on
+-- these events lead to the next moment with these journals, and of them there is nothing to tell
+pub record LeadsByClears (w : World) (a block : ℕ) (v : RunMoment) (journal : ℕ → Journal) : Type 0 where
+  pub untold : LeadsUntold w v journal
+  pub by : untold.leads.events ≡ map (Clear a) (block_sectors block)
+
+-- a Clear is these
 abbrev pub ClearsAreEvents : Type 0
 ClearsAreEvents =
     (s : RunMoment) (w : World) (journal : ℕ → Journal) (tree : FileTree) (a block : ℕ) → IsWorldOf s w journal → StandsWhole s.core.setting.segments w tree →
-    stage s.core a ≡ Some (Clearing block) → IsFreshBlock s.core.setting.segments w a block → IsReachedWithAll s.core.servers w a → LeadsQuietly w (next s (core.Clear a block) Nothing)
+    stage s.core a ≡ Some (Clearing block) → IsFreshBlock s.core.setting.segments w a block → IsReachedWithAll s.core.servers w a → LeadsByClears w a block (next s (core.Clear a block) Nothing) journal

@@ -32,16 +32,16 @@ pub record IsFetchable (s : RunMoment) (w : World) (a sector : ℕ) (lock : Lock
 abbrev pub FetchesAreEvents : Type 0
 FetchesAreEvents =
     (s : RunMoment) (w : World) (journal : ℕ → Journal) (a sector : ℕ) (lock : LockId) (block : Block) → IsWorldOf s w journal → Good w → Makes s (Fetch a sector) (Got block) →
-    IsFetchable s w a sector lock → LeadsQuietly w (next s (Fetch a sector) (Got block))
+    IsFetchable s w a sector lock → LeadsQuietly w (next s (Fetch a sector) (Got block)) journal
 
 -- or its get fails
 abbrev pub FailedFetchesAreEvents : Type 0
 FailedFetchesAreEvents =
     (s : RunMoment) (w : World) (journal : ℕ → Journal) (a sector : ℕ) → IsWorldOf s w journal → IsTrue (is_server a) → IsTrue (is_up (s.core.servers a).phase) →
-    LeadsQuietly w (next s (Fetch a sector) GetFailed)
+    LeadsQuietly w (next s (Fetch a sector) GetFailed) journal
 
 -- a mount that reads its log, or fails to
 abbrev pub MountsFetchNone : Type 0
 MountsFetchNone =
     (s : RunMoment) (w : World) (journal : ℕ → Journal) (a sector : ℕ) (block : Block) → IsWorldOf s w journal → IsTrue (is_off (s.core.servers a).phase) →
-    LeadsQuietly w (next s (Fetch a sector) (Got block)) × LeadsQuietly w (next s (Fetch a sector) GetFailed)
+    LeadsQuietly w (next s (Fetch a sector) (Got block)) journal × LeadsQuietly w (next s (Fetch a sector) GetFailed) journal

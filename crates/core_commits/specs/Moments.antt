@@ -1,5 +1,5 @@
 -- The events of a line at a moment of a run, whose world has a history of lines.
-use Rattle.std.specs.Prelude.{◌≡◌, ◌≢◌, ◌<◌, ◌^◌, ℕ, Bool, IsTrue, List, [], ◌∷◌, ◌++◌, filter, map, Ok, Some, true, false}
+use Rattle.std.specs.Prelude.{◌≡◌, ◌≢◌, ◌<◌, ℕ, Bool, IsTrue, List, [], ◌∷◌, ◌++◌, filter, map, Ok, Some, true, false}
 use Rattle.std.specs.Map.{keys_of}
 use Rattle.frang_base.specs.declared.limits.TheConstants.{LOG_SECTORS, SECTOR_BYTES}
 use Rattle.frang_base.specs.declared.lock.LockId.{LockId}
@@ -10,9 +10,7 @@ use Rattle.cache_definitions.specs.Caches.{Cache}
 use Rattle.sector_bytes.specs.Blocks.{Block}
 use Rattle.sector_bytes.specs.Bytes.{zeros}
 use Rattle.sector_bytes.specs.Sectors.{Sectors}
-use Rattle.tree_definitions.specs.Touched.{shape_of}
 use Rattle.tree_definitions.specs.Tree.{FileTree}
-use Rattle.tree_definitions.specs.WellFormed.{IsNew}
 use Rattle.disk_definitions.specs.Allowed.{IsAllowed}
 use Rattle.disk_definitions.specs.Replay.{slots_of}
 use Rattle.line_laws.specs.Laws.{HasPath}
@@ -37,10 +35,9 @@ use Rattle.core_world.specs.Events.{LeadsQuietly, first_world}
 use Rattle.core_world.specs.Journals.{Journal}
 use Rattle.core_world.specs.Steps.{IsReached, IsWorldOf}
 use Rattle.core_world.specs.Ties.{AreCached, AreFlying}
-use Rattle.core_commits.specs.Clears.{IsReachedWithAll}
+use Rattle.core_commits.specs.Clears.{IsReachedWithAll, LeadsByClears}
 use Rattle.core_commits.specs.Commits.{AreClaimed, AreClaimedClean, IsDoneAs, WritesHoldTheirCovers, fetched_world}
-use Rattle.core_commits.specs.Finished.{IsOutcomeNow, LinesLookAtVersions, number_in, time_of}
-use Rattle.core_commits.specs.Needs.{LinesNeedDirectories}
+use Rattle.core_commits.specs.Finished.{IsOutcomeNow, number_in, time_of}
 use Rattle.core_commits.specs.Operations.{MayBeDone, operation_in}
 use Rattle.core_commits.specs.Stages.{IsFinished, sight_in}
 use Rattle.core_commits.specs.Standing.{AreSegmentsOf, IsOfLines, StandsWhole, tree_now}
@@ -72,28 +69,10 @@ FirstMomentsAreOfARun =
 -- a Fetch by a server that is up
 abbrev pub FetchesOfLinesAreEvents : Type 0
 FetchesOfLinesAreEvents =
-    (s : RunMoment) (w : World) (journal : ℕ → Journal) (when : ℕ → ℕ) (first_tree : FileTree) (numbers : List ℕ) (a sector : ℕ) (block : Block) → LinesNeedDirectories →
-    IsOfARun s w journal when first_tree numbers → Makes s (core.Fetch a sector) (Got block) → IsTrue (is_up (s.core.servers a).phase) → LeadsQuietly w (next s (core.Fetch a sector) (Got block))
+    (s : RunMoment) (w : World) (journal : ℕ → Journal) (when : ℕ → ℕ) (first_tree : FileTree) (numbers : List ℕ) (a sector : ℕ) (block : Block) →
+    IsOfARun s w journal when first_tree numbers → Makes s (core.Fetch a sector) (Got block) → IsTrue (is_up (s.core.servers a).phase) → LeadsQuietly w (next s (core.Fetch a sector) (Got block)) journal
 
--- the line under way of a server may be asked, has a number that is new to the tree, and a time
-abbrev pub IsNewLine : RunMoment → FileTree → ℕ → Type 0
-IsNewLine s tree a =
-    (under : Under) (operation : Op) → (s.core.servers a).under ≡ Some under → operation_of under.line.what ≡ Some operation →
-    IsAllowed operation × IsNew (shape_of tree) (number_in s.core.setting under.line.number) × (number_in s.core.setting under.line.number < 2 ^ 64) × (time_of s.core.setting under.line.number < 2 ^ 64)
-
--- a Clear
-abbrev pub ClearsOfLinesAreEvents : Type 0
-ClearsOfLinesAreEvents =
-    (s : RunMoment) (w : World) (journal : ℕ → Journal) (when : ℕ → ℕ) (first_tree : FileTree) (numbers : List ℕ) (a block : ℕ) → IsOfARun s w journal when first_tree numbers →
-    Makes s (core.Clear a block) Nothing → IsNewLine s (tree_now when first_tree w) a → IsReachedWithAll s.core.servers w a → LeadsQuietly w (next s (core.Clear a block) Nothing)
-
--- ---- a Commit
-
--- the sectors with these claims that a server has cached
-abbrev pub claimed_in : Cache → (ℕ → Bool) → List ℕ
-claimed_in cache claims = filter claims (keys_of cache)
-
--- The line under way of a server may be asked and has a path; its number is above those of its server, new to the first tree and to the history, and it has this time
+-- the line under way of a server may be asked and has a path; its number is above those of its server, new to the first tree and to the history, and it has this time
 pub record IsNumbered (s : RunMoment) (w : World) (when : ℕ → ℕ) (first_tree : FileTree) (numbers : List ℕ) (a : ℕ) (line : ℕ) (operation : Op) : Type 0 where
   pub allowed : IsAllowed operation
   pub path : HasPath operation
@@ -105,6 +84,18 @@ pub record IsNumbered (s : RunMoment) (w : World) (when : ℕ → ℕ) (first_tr
 abbrev pub LinesAreNumbered : RunMoment → World → (ℕ → ℕ) → FileTree → List ℕ → ℕ → Type 0
 LinesAreNumbered s w when first_tree numbers a =
     (under : Under) (operation : Op) → (s.core.servers a).under ≡ Some under → operation_of under.line.what ≡ Some operation → IsNumbered s w when first_tree numbers a under.line.number operation
+
+-- a Clear
+abbrev pub ClearsOfLinesAreEvents : Type 0
+ClearsOfLinesAreEvents =
+    (s : RunMoment) (w : World) (journal : ℕ → Journal) (when : ℕ → ℕ) (first_tree : FileTree) (numbers : List ℕ) (a block : ℕ) → IsOfARun s w journal when first_tree numbers →
+    Makes s (core.Clear a block) Nothing → LinesAreNumbered s w when first_tree numbers a → IsReachedWithAll s.core.servers w a → LeadsByClears w a block (next s (core.Clear a block) Nothing) journal
+
+-- ---- a Commit
+
+-- the sectors with these claims that a server has cached
+abbrev pub claimed_in : Cache → (ℕ → Bool) → List ℕ
+claimed_in cache claims = filter claims (keys_of cache)
 
 -- A Commit's line is an outcome over the logical sectors; where what it claims is cached clean, the claimed sectors are fetched and its operation is done
 pub record IsOperation (s : RunMoment) (w : World) (when : ℕ → ℕ) (tree : FileTree) (a : ℕ) (outcome : plans.Outcome) : Type 0 where
@@ -120,7 +111,7 @@ pub record IsOperation (s : RunMoment) (w : World) (when : ℕ → ℕ) (tree : 
 
 abbrev pub CommitsOfLinesMayBeDone : Type 0
 CommitsOfLinesMayBeDone =
-    (s : RunMoment) (w : World) (journal : ℕ → Journal) (when : ℕ → ℕ) (first_tree : FileTree) (numbers : List ℕ) (a : ℕ) (outcome : plans.Outcome) → LinesLookAtVersions s.core.setting.segments when →
+    (s : RunMoment) (w : World) (journal : ℕ → Journal) (when : ℕ → ℕ) (first_tree : FileTree) (numbers : List ℕ) (a : ℕ) (outcome : plans.Outcome) →
     IsOfARun s w journal when first_tree numbers → stage s.core a ≡ Some (Finishing outcome) → LinesAreNumbered s w when first_tree numbers a → IsOperation s w when (tree_now when first_tree w) a outcome
 
 -- the operation of a Commit's line, with what it claims
@@ -134,11 +125,18 @@ pub record IsKept (s : RunMoment) (a : ℕ) (u : World) : Type 0 where
   pub cached : AreCached (next s (core.Commit a) Nothing).core.servers u
   pub flying : s.core.over ≡ false → AreFlying s.core.setting.segments s.core.now (next s (core.Commit a) Nothing).core.flights u
 
--- so it is where what the core finishes is the operation, what it claims is cached clean, and the servers of writes in place of present mounts hold their covers alone
+-- so it is where what it claims is cached clean, and the servers of writes in place of present mounts hold their covers alone
 abbrev pub CommitsOfLinesKeepTies : Type 0
 CommitsOfLinesKeepTies =
     (s : RunMoment) (w : World) (journal : ℕ → Journal) (when : ℕ → ℕ) (first_tree : FileTree) (numbers : List ℕ) (a : ℕ) (outcome : plans.Outcome) → IsOfARun s w journal when first_tree numbers →
     stage s.core a ≡ Some (Finishing outcome) → (op : IsOperation s w when (tree_now when first_tree w) a outcome) →
     let c = operation_at s w when (tree_now when first_tree w) a outcome op in
-    IsDoneAs outcome c w → AreClaimedClean (s.core.servers a).cache c → WritesHoldTheirCovers w s.core.flights →
+    LinesAreNumbered s w when first_tree numbers a → AreClaimedClean (s.core.servers a).cache c → WritesHoldTheirCovers w s.core.flights →
     IsKept s a (after (fetched_world w a (claimed_in (s.core.servers a).cache op.out.o.claims)) (Do c))
+
+-- what the core makes of a finished line is its operation: its record, the covers that it moves, the bytes that it sets and those that it frees
+abbrev pub FinishedLinesAreDone : Type 0
+FinishedLinesAreDone =
+    (s : RunMoment) (w : World) (journal : ℕ → Journal) (when : ℕ → ℕ) (first_tree : FileTree) (numbers : List ℕ) (a : ℕ) (outcome : plans.Outcome) → IsOfARun s w journal when first_tree numbers →
+    LinesAreNumbered s w when first_tree numbers a → (op : IsOperation s w when (tree_now when first_tree w) a outcome) →
+    IsDoneAs outcome (operation_at s w when (tree_now when first_tree w) a outcome op) w

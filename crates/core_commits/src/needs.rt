@@ -2,8 +2,7 @@
 
 ghost use Rattle.core_commits.specs.Needs.{NeededSectorsComeIn};
 
-/// A sector that a line needs isn't cached, lies on the disk in no log, and its cover at hand, which its server holds, is its cover; and one of bytes was written. So its Fetch is an event. It rests on a law
-/// of plans that isn't shown here: that lines need no directory's sector of an unused block.
+/// A sector that a line needs isn't cached, lies on the disk in no log, and its cover at hand, which its server holds, is its cover; and one of bytes was written. So its Fetch is an event.
 pub fn needed_sectors_come_in()
     ensures come { NeededSectorsComeIn }
 {}

@@ -3,8 +3,7 @@
 ghost use Rattle.core_commits.specs.Finished.{FinishedLinesAreOutcomes};
 ghost use Rattle.core_commits.specs.Operations.{FinishedLinesMayBeDone};
 
-/// A finished line of the core is an outcome over the logical sectors that keeps the guards of plans, says what the line does, and makes of bytes what the line makes of them. It rests on a law of
-/// plans that isn't shown here: that lines look at sectors with versions, or of unused blocks.
+/// A finished line of the core is an outcome over the logical sectors that keeps the guards of plans, says what the line does, and makes of bytes what the line makes of them.
 pub fn finished_lines_are_outcomes()
     ensures outcome { FinishedLinesAreOutcomes }
 {}

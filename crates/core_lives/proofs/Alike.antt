@@ -136,9 +136,9 @@ module _ (c : Core) (servers : ℕ → Server) (locks : Locks) (flights : Flight
       go true false false h f t = t
       go false v u h f t = t
 
-  rescues_as : AreRescues c.servers w → AreRescues servers w
+  rescues_as : AreRescues c.servers c.flights w → AreRescues servers c.flights w
   rescues_as g = record {
-    under_way = λ by r who e. subst (λ f. IsRescueOf by r w.rescue ⊎ IsStuck f r) (sym (same.alike by).failed) (g.under_way by r (works_as by who) (sym (same.alike by).recovery ∙ e));
+    under_way = λ by r who e. subst (λ f. IsRescueOf by r w.rescue ⊎ IsStuck by c.flights f r) (sym (same.alike by).failed) (g.under_way by r (works_as by who) (sym (same.alike by).recovery ∙ e));
     known = λ r e. let k = g.known r e in (k.0, (same.alike r.by).recovery ∙ k.1, k.2);
   }
 
@@ -160,7 +160,7 @@ module _ (c : Core) (servers : ℕ → Server) (locks : Locks) (flights : Flight
         (subst (λ r. IsMarkedAs r.reached (w.acked b) (value_at (c.servers b).cache s) (w.slot b s) (w.page b s)) (sym (same.alike b).ring) (t.marked b s));
     flying = λ e. let g = same.going e in subst (λ f. AreFlying c.setting.segments c.now f w) (sym g.1) (t.flying g.0);
     disk = t.disk;
-    rescues = rescues_as t.rescues;
+    rescues = λ e. let g = same.going e in subst (λ f. AreRescues servers f w) (sym g.1) (rescues_as (t.rescues g.0));
     logged = λ b all. t.logged b (subst (λ r. IsTrue (is_all_reached r)) (same.alike b).ring all);
   }
 
@@ -198,6 +198,7 @@ keeps_as c servers locks flights over same disk w journal t = record {
 
 pub kept_quiet : KeptWorldsAreQuiet
 kept_quiet s v w journal keeps t = record {
-  leads = record { events = []; world = w; run = stays; journal = journal; is = keeps w journal t };
+  leads = record { events = []; world = w; run = stays; is = keeps w journal t };
   story = record { servers = refl; opening = refl; logged = refl; first = refl; home = refl; history = refl };
+  quiet = tt;
 }

@@ -35,6 +35,7 @@ use Rattle.sector_world.specs.Bytes.{PageHeld}
 use Rattle.sector_world.specs.Steps.{Event, Run, after, stays, goes}
 use Rattle.sector_world.specs.Steps.Event.{Give}
 use Rattle.sector_world.specs.World.{World, Up, Slot, Absent, Clean, Dirty, Page, NoPage, CleanPage, DirtyPage, FreedPage, Flight, ByteFlight, cover, has_version}
+use Rattle.core_world.specs.Quiet.{AllQuiet}
 use Rattle.core_world.specs.Ties.{AreTied, IsCachedAs, IsFlying, IsPageOf, IsSlotOf}
 
 -- ---- nothing to write, in the world
@@ -89,6 +90,7 @@ pub record GivesAll (a : ℕ) (locks : List LockId) (w : World) : Type 0 where
   pub events : List Event
   pub world : World
   pub run : Run w events world
+  pub quiet : (segments : ℕ) → AllQuiet segments w events
   pub same : world ≡ record w { holds = world.holds; slot = world.slot; page = world.page }
   pub holds : (b : ℕ) → b ≢ a → (lock : LockId) → world.holds b lock ≡ w.holds b lock
   pub slots : (b : ℕ) → b ≢ a → world.slot b ≡ w.slot b
@@ -101,6 +103,7 @@ all_given a [] w h = record {
   events = [];
   world = w;
   run = stays;
+  quiet = λ segments. tt;
   same = refl;
   holds = λ b n lock. refl;
   slots = λ b n. refl;
@@ -114,6 +117,7 @@ all_given a (lock ∷ locks) w h =
       events = Give a lock ∷ x.events;
       world = x.world;
       run = goes (may_give a w lock h) x.run;
+      quiet = λ segments. (tt, x.quiet segments);
       same = x.same;
       holds = λ b n k. x.holds b n k ∙ at_lock (λ m. m ≡ w.holds b k) w.holds a lock None b k (λ e f. absurd (n e)) (λ apart. refl);
       slots = λ b n. x.slots b n ∙ put_other w.slot a (λ i. if same_lock (cover w i) lock then Absent else w.slot a i) b n;

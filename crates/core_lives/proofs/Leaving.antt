@@ -34,6 +34,7 @@ use Rattle.sector_world.specs.World.{World, Absent, NoPage, cover, has_version}
 use Rattle.core_world.specs.Journals.{AreReadings}
 use Rattle.core_world.specs.Readings.{AreNamed, ReadsAs}
 use Rattle.core_world.specs.Steps.{IsReached}
+use Rattle.core_world.specs.Quiet.{AllQuiet}
 use Rattle.core_world.specs.Ties.{AreLogged, AreRescues, AreTied, IsCachedAs, IsMarkedAs, IsRescueOf, IsStuck}
 use Rattle.core_lives.proofs.Alike.{mounted_up}
 use Rattle.core_lives.proofs.Emptying.{GivesAll, HasNothing, HasNothingToWrite, IsClean, all_given, clean_parts, emptied, listed, nothing_to_write}
@@ -125,6 +126,7 @@ pub record Empties (a : ℕ) (w : World) : Type 0 where
   pub events : List Event
   pub world : World
   pub run : Run w events world
+  pub quiet : (segments : ℕ) → AllQuiet segments w events
   pub is : IsEmptied a w world
 
 pub writes_nothing : (s : RunMoment) (w : World) (a : ℕ) → AreTied s.core s.disk w → s.core.over ≡ false → Good w → IsLeaving s a → HasNothingToWrite a w
@@ -135,6 +137,7 @@ empties s w a t going g l = record {
   events = x.events;
   world = x.world;
   run = x.run;
+  quiet = x.quiet;
   is = record {
     same = x.same;
     holds = x.holds;
@@ -181,12 +184,12 @@ module _ (c : Core) (disk : Sectors) (w : World) (t : AreTied c disk w) (a : ℕ
       other n = subst (λ k. IsMarkedAs (c.servers b).ring.reached (w.acked b) (value_at (c.servers b).cache s) (k s) (u.page b s)) (sym (x.slots b n))
           (subst (λ k. IsMarkedAs (c.servers b).ring.reached (w.acked b) (value_at (c.servers b).cache s) (w.slot b s) (k s)) (sym (x.pages b n)) (t.marked b s))
 
-  pub emptied_rescues : AreRescues servers_after w
-  emptied_rescues = record {
+  pub emptied_rescues : c.over ≡ false → AreRescues servers_after c.flights w
+  emptied_rescues going = record {
     under_way = λ by r. at_put (λ y. IsTrue ((is_server by && is_up y.phase) || by == host_party) → y.recovery ≡ Some r →
-        IsRescueOf by r w.rescue ⊎ IsStuck y.failed r) c.servers a new by
-        (λ e who i. absurd (none-some r (sym recovers ∙ i))) (λ n. t.rescues.under_way by r);
-    known = λ r e. let k = t.rescues.known r e in
+        IsRescueOf by r w.rescue ⊎ IsStuck by c.flights y.failed r) c.servers a new by
+        (λ e who i. absurd (none-some r (sym recovers ∙ i))) (λ n. (t.rescues going).under_way by r);
+    known = λ r e. let k = (t.rescues going).known r e in
         (k.0, at_put (λ y. y.recovery ≡ Some k.0) c.servers a new r.by (λ i. absurd (none-some k.0 (sym alone ∙ ap (λ n. (c.servers n).recovery) (sym i) ∙ k.1))) (λ n. k.1), k.2);
   }
 

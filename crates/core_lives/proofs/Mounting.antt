@@ -1,6 +1,6 @@
 -- A mount is Ack of all that is on the disk, Mount, and Reclaim of all that came before: its log begins anew behind the one that it found.
-use Rattle.std.proofs.Common.{◌≡◌, ◌≢◌, ◌↔◌, ℕ, ◌+◌, ◌-◌, ◌^◌, ◌<◌, ◌≤◌, ◌==◌, Bool, true, false, ◌&&◌, ◌||◌, if◌then◌else◌, IsTrue, IsSome, List, [], ◌∷◌, Option, Some, None, unwrap_or, nat_eq, nat_lt, refl, sym, ap, ◌∙◌, subst, inl, arith, le_refl, append-nil, reverse}
-use Rattle.std.proofs.lemmas.Bool.{and_parts, eqb-true, false≢true, ltb-true}
+use Rattle.std.proofs.Common.{◌≡◌, ◌≢◌, ◌↔◌, ℕ, ◌+◌, ◌-◌, ◌^◌, ◌<◌, ◌≤◌, ◌==◌, Bool, true, false, ◌&&◌, ◌||◌, if◌then◌else◌, IsTrue, IsSome, List, [], ◌∷◌, Option, Some, None, unwrap_or, nat_eq, nat_lt, le_trans, refl, sym, ap, ◌∙◌, subst, inl, arith, le_refl, append-nil, reverse}
+use Rattle.std.proofs.lemmas.Bool.{and_parts, eqb-true, false≢true, ltb-true, not-true}
 use Rattle.std.proofs.lemmas.Bool.Decides.{nat_tests}
 use Rattle.std.proofs.lemmas.Option.{none-some, same_Some}
 use Rattle.std.specs.List.{Contains}
@@ -54,7 +54,7 @@ use Rattle.sector_world.specs.Logged.{AbsentUnlessUp}
 use Rattle.sector_world.specs.Steps.{after, stays, goes}
 use Rattle.sector_world.specs.Steps.Event.{Ack, Mount, Reclaim}
 use Rattle.sector_world.specs.World.{World, Phase, Off, Up, Slot, Absent, cover, has_version}
-use Rattle.core_world.specs.Journals.{AreJournals, AreReadings, IsAtRest, IsJournal, IsLogOf, Journal, sector_log}
+use Rattle.core_world.specs.Journals.{AreJournals, AreReadings, IsAtRest, IsJournal, IsLogOf, Journal, journal_at, sector_log}
 use Rattle.core_world.specs.Readings.{AllInPlace, AreNamed, ReadsAs, changing}
 use Rattle.core_world.specs.Steps.{IsReached}
 use Rattle.core_world.specs.Ties.{AreTied, IsCachedAs, IsMarkedAs, phase_of}
@@ -148,6 +148,7 @@ pub record IsMounting (s : RunMoment) (a : ℕ) : Type 0 where
   pub server : IsTrue (is_server a)
   pub under : Under
   pub is : (s.core.servers a).under ≡ Some under
+  pub going : s.core.over ≡ false
   pub off : (s.core.servers a).phase ≡ life.Off
   pub bare : HasNothing (s.core.servers a)
   pub dead : (by : ℕ) (recovery : Recovery) → IsTrue ((is_server by && is_up (s.core.servers by).phase) || by == host_party) → (s.core.servers by).recovery ≡ Some recovery →
@@ -163,6 +164,7 @@ mounting nothing landed of_dead fresh whole read s r a makes begins = record {
   server = makes.can.can.server;
   under = x.under;
   is = x.is;
+  going = not-true s.core.over makes.can.going;
   off = off;
   bare = nothing setting r.disk s r.run a makes.can.can.server rests;
   dead = λ by recovery who e i. false≢true (ap is_dead (sym off ∙ ap (λ n. (s.core.servers n).phase) (sym i)) ∙ (of_dead setting r.disk s r.run by recovery who e).1);
@@ -234,7 +236,7 @@ module _ (s : RunMoment) (w : World) (a : ℕ) (t : AreTied s.core s.disk w) (g 
   can_mount : w.servers ≡ SERVERS → CanMount acked a
   can_mount many = record {
     off = off;
-    resting = λ r e i. let n = t.rescues.known r e in none-some n.0 (sym q.bare.recovery ∙ ap (λ x. (c.servers x).recovery) (sym i) ∙ n.1);
+    resting = λ r e i. let n = (t.rescues q.going).known r e in none-some n.0 (sym q.bare.recovery ∙ ap (λ x. (c.servers x).recovery) (sym i) ∙ n.1);
     known = subst (λ n. a < n) (sym many) (ltb-true a 16 q.server);
   }
 
@@ -290,7 +292,7 @@ module _ (s : RunMoment) (w : World) (a : ℕ) (t : AreTied s.core s.disk w) (g 
 
   -- nothing is in the ring, and each operation ends where the log ends
   abbrev pub journal_begun : Journal
-  journal_begun = record { before = slots; log = log_at slots; ends = λ n. log_end slots }
+  journal_begun = journal_at slots
 
   own_below : Each (λ d. d.by ≡ a → d.op ≤ k) (settled w.history)
   own_below = each_map (λ d. d.op ≤ w.last d.by) (λ d. d.by ≡ a → d.op ≤ k) (λ d l e. subst (λ n. d.op ≤ w.last n) e l) (settled w.history) g.logged.below
@@ -325,6 +327,7 @@ module _ (s : RunMoment) (w : World) (a : ℕ) (t : AreTied s.core s.disk w) (g 
     };
     sent = λ one number i by purpose early. absurd (q.none one i by early);
     records = record {
+      ends_at_last = λ p i. absurd (contains_in [] p i);
       given_up = λ p i. absurd (contains_in [] p i);
       placed = sym (ap (λ l. reverse (changing l)) (put_same w.log a (above k (w.log a)) ∙ emptied_so));
       old = λ i. subst (λ rs. AllInPlace rs i (version_of (w.disk i))) (sym (append-nil (log_records slots))) (rest.old i);
@@ -371,7 +374,6 @@ mounts nothing landed of_dead fresh whole read begins s w journal a r t g many h
     events = Ack a (w.last a) ∷ Mount a ∷ Reclaim a (w.last a) ∷ [];
     world = begun s w a t.tied g q;
     run = goes (can_ack s w a t.tied g q) (goes (can_mount s w a t.tied g q many) (goes (can_reclaim s w a t.tied g q many) stays));
-    journal = put journal a (journal_begun s w a t.tied g q);
     is = by_world (next s (Answer a) Nothing) (begun s w a t.tied g q) (put journal a (journal_begun s w a t.tied g q))
         (subst (λ d. IsWorldBy d s.disk (begun s w a t.tied g q) (put journal a (journal_begun s w a t.tied g q))) (sym q.leads) (record {
           tied = begun_tied s w a t.tied g q (lasts s r s.core.now ∙ ap (λ n. n + LEASE_TICKS) (sym t.tied.lives.now));
@@ -380,6 +382,7 @@ mounts nothing landed of_dead fresh whole read begins s w journal a r t g many h
         }));
   };
   story = record { servers = refl; opening = refl; logged = refl; first = refl; home = refl; history = refl };
+  quiet = (le_trans (g.logged.acks a) (g.logged.reached a), (tt, (tt, tt)));
 }
   where
     q : IsMounting s a

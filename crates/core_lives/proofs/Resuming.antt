@@ -28,6 +28,7 @@ use Rattle.sector_world.specs.Steps.Event.{Renew}
 use Rattle.sector_world.specs.World.{World, Up, Dead}
 use Rattle.core_world.specs.Events.{LeadsQuietly}
 use Rattle.core_world.specs.Journals.{AreJournals, AreReadings, IsLogOf, Journal, sector_log}
+use Rattle.core_world.proofs.Quiet.{quiet_both}
 use Rattle.core_world.specs.Steps.{IsReached, IsWorldOf}
 use Rattle.core_world.specs.Ties.{AreTied, phase_of, taker_of, until_of}
 use Rattle.core_world.proofs.Living.{lasts}
@@ -112,14 +113,13 @@ module _ (s : RunMoment) (w u : World) (a : ℕ) (t : AreTied s.core s.disk w) (
 
 pub resumes : WhoLivesHasFreshWrites → HoldsAreOfRecoveries → HoldsAreOnTheDead → (s : RunMoment) (w : World) (journal : ℕ → Journal) (a : ℕ) → IsReached s →
     IsWorldOf s w journal → Good w →
-    Makes s (Resume a) Nothing → LeadsQuietly w (next s (Resume a) Nothing)
+    Makes s (Resume a) Nothing → LeadsQuietly w (next s (Resume a) Nothing) journal
 resumes fresh recover dead s w journal a r t g makes = record {
   leads = record {
     events = x.events ++ Renew a ∷ [];
     world = after x.world (Renew a);
     run = joined w x.world (after x.world (Renew a)) x.events (Renew a ∷ []) x.run
         (goes (subst (λ v. guards.CanRenew v a) (sym x.is.same) (renew_can s w x.world a t.tied l x.is are can.server m past.1)) stays);
-    journal = journal;
     is = record {
       tied = subst (λ v. AreTied (next s (Resume a) Nothing).core s.disk (after v (Renew a))) (sym x.is.same) (resumed_tied s w x.world a t.tied l x.is are can.server m);
       journals = subst (λ v. AreJournals (next s (Resume a) Nothing).core.servers s.core.now s.core.flights s.disk (after v (Renew a)) journal) (sym x.is.same)
@@ -136,6 +136,7 @@ resumes fresh recover dead s w journal a r t g makes = record {
     home = ap (λ v. v.home) x.is.same;
     history = ap (λ v. v.history) x.is.same;
   };
+  quiet = quiet_both s.core.setting.segments w x.world x.events (Renew a ∷ []) x.run (x.quiet s.core.setting.segments) (tt, tt);
 }
   where
     can : CanResume s.core a

@@ -57,10 +57,10 @@ syncs s w journal a r t g free makes tells = record {
     events = Sync a ∷ [];
     world = after w (Sync a);
     run = goes can stays;
-    journal = journal;
     is = by_world (next s (Answer a) Nothing) (after w (Sync a)) journal (subst (λ d. IsWorldBy d s.disk (after w (Sync a)) journal) (sym (answered_is s.core a op.Sync x)) same);
   };
   story = record { servers = refl; opening = refl; logged = refl; first = refl; home = refl; history = refl };
+  quiet = (tt, tt);
 }
   where
     x : IsOpenOf s.core a op.Sync

@@ -29,6 +29,7 @@ use Rattle.sector_world.specs.Steps.{after, stays, goes}
 use Rattle.sector_world.specs.Steps.Event.{Unmount}
 use Rattle.sector_world.specs.World.{World, Off, Up}
 use Rattle.core_world.specs.Journals.{AreJournals, AreReadings, IsAtRest, IsLogOf, Journal, sector_log}
+use Rattle.core_world.proofs.Quiet.{quiet_both}
 use Rattle.core_world.specs.Steps.{IsReached, IsWorldOf}
 use Rattle.core_world.specs.Ties.{AreTied, expiry_at, phase_of, taker_of, until_of}
 use Rattle.core_lives.proofs.Alike.{IsWorldBy, by_world, mounted_journal, mounted_up}
@@ -94,14 +95,13 @@ module _ (s : RunMoment) (w u : World) (a : ℕ) (t : AreTied s.core s.disk w) (
 -- where the laws of logs are known
 module _ (ends : GoodLogsEndWithin) (reads : GoodLogsReadBack) (fresh : WhoLivesHasFreshWrites) (recover : HoldsAreOfRecoveries) (dead : HoldsAreOnTheDead) where
   leaves : (s v : RunMoment) (w : World) (journal : ℕ → Journal) (a : ℕ) → IsReached s → IsWorldOf s w journal → Good w → IsTrue (is_server a) → s.core.over ≡ false → IsLeaving s a →
-      ((y : World) → IsWorldBy (left_core s.core a) s.disk y journal → IsWorldOf v y journal) → LeadsWith w v (Synced a (w.last a))
+      ((y : World) → IsWorldBy (left_core s.core a) s.disk y journal → IsWorldOf v y journal) → LeadsWith w v journal (Synced a (w.last a))
   leaves s v w journal a r t g server going l by = record {
     leads = record {
       events = x.events ++ Unmount a ∷ [];
       world = after x.world (Unmount a);
       run = joined w x.world (after x.world (Unmount a)) x.events (Unmount a ∷ []) x.run
           (goes (subst (λ y. CanUnmount y a) (sym x.is.same) (unmount_can s w x.world a t.tied l x.is are)) stays);
-      journal = journal;
       is = by (after x.world (Unmount a)) (record {
         tied = subst (λ y. AreTied (left_core s.core a) s.disk (after y (Unmount a))) (sym x.is.same) (left_tied s w x.world a t.tied l x.is are);
         journals = subst (λ y. AreJournals (put s.core.servers a (off_after (s.core.servers a))) s.core.now s.core.flights s.disk (after y (Unmount a)) journal) (sym x.is.same)
@@ -118,6 +118,7 @@ module _ (ends : GoodLogsEndWithin) (reads : GoodLogsReadBack) (fresh : WhoLives
       home = ap (λ y. y.home) x.is.same;
       history = ap (λ y. Synced a (y.last a) ∷ y.history) x.is.same;
     };
+    quiet = quiet_both v.core.setting.segments w x.world x.events (Unmount a ∷ []) x.run (x.quiet v.core.setting.segments) (tt, tt);
   }
     where
       are : AreLocks s.core.locks

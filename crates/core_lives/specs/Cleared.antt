@@ -55,4 +55,4 @@ LivesShrinkCaches =
 abbrev pub SyncsLeadOn : Type 0
 SyncsLeadOn =
     (s : RunMoment) (w : World) (journal : ℕ → Journal) (a : ℕ) → IsReached s → IsWorldOf s w journal → Good w → ClearedAreFree s.core.servers w → Makes s (Answer a) Nothing →
-    IsTrue (tells_sync s.core a) → LeadsWith w (next s (Answer a) Nothing) (Synced a (w.last a))
+    IsTrue (tells_sync s.core a) → LeadsWith w (next s (Answer a) Nothing) journal (Synced a (w.last a))

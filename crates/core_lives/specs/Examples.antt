@@ -35,7 +35,7 @@ pub record ReadsTheRoot (journal : ℕ → Journal) : Type 0 where
   pub sixteen : empty_world.servers ≡ SERVERS
   pub cleared : ClearedAreFree empty_moment.core.servers empty_world
   pub room : (a : ℕ) → HasRoom empty_moment a
-  pub goes_on : GoesOn empty_world (next empty_moment (Read (inode_sector ROOT_INODE)) (Got zero_block))
+  pub goes_on : GoesOn empty_world (next empty_moment (Read (inode_sector ROOT_INODE)) (Got zero_block)) journal
 
 abbrev pub RootsAreRead : Type 0
 RootsAreRead = (journal : ℕ → Journal) → ReadsTheRoot journal

@@ -22,7 +22,7 @@ KeepsWorlds s v = (w : World) (journal : ℕ → Journal) → IsWorldOf s w jour
 
 -- so no event leads there, and of none there is nothing to tell
 abbrev pub KeptWorldsAreQuiet : Type 0
-KeptWorldsAreQuiet = (s v : RunMoment) (w : World) (journal : ℕ → Journal) → KeepsWorlds s v → IsWorldOf s w journal → LeadsQuietly w v
+KeptWorldsAreQuiet = (s v : RunMoment) (w : World) (journal : ℕ → Journal) → KeepsWorlds s v → IsWorldOf s w journal → LeadsQuietly w v journal
 
 -- ---- answers
 

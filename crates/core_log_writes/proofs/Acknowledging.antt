@@ -22,12 +22,11 @@ use Rattle.sector_world.specs.Histories.{OpsRise, settled}
 use Rattle.sector_world.specs.Steps.{after}
 use Rattle.sector_world.specs.Steps.Event.{Ack}
 use Rattle.sector_world.specs.World.{World, cover, has_version}
+use Rattle.core_world.specs.Beside.{AreEnds, AreOpen, AtCached, IsEnd}
 use Rattle.core_world.specs.Journals.{AreJournals, AreReadings, IsJournal, IsLogOf, Journal, sector_log}
 use Rattle.core_world.specs.Steps.{IsWorldOf}
 use Rattle.core_world.specs.Ties.{AreCached, AreLives, AreLogged, AreMarked, AreRescues, AreTied, IsCachedAs, IsMark, IsMarkedAs}
 use Rattle.core_world.proofs.Same.{AreAlike, lives_alike, put_as, readings_alike, rescues_alike}
-use Rattle.core_log_writes.specs.LogWrites.{AreOpen}
-use Rattle.core_log_writes.specs.Marks.{AreEnds, AtCached, IsEnd}
 use Rattle.core_log_writes.proofs.Furthest.{acked_more, acked_then, acked_up_to, all_known, can_ack, counted_known}
 use Rattle.core_log_writes.proofs.Keeping.{acked_given, acked_on, as_journal, as_log}
 use Rattle.core_log_writes.proofs.Marking.{cached_mark, cached_on, end_marks, end_stays}
@@ -89,6 +88,7 @@ module _ (s : RunMoment) (w : World) (journal : ℕ → Journal) (t : IsWorldOf 
       given_up = λ p i. let x = old.records.given_up p i in
           subst (λ n. (p.redo.op.0 ≤ w.floor a) ↔ (p.first ≤ n)) (sym (acked_given (journal a).log.ring number)) x;
       placed = old.records.placed;
+      ends_at_last = old.records.ends_at_last;
       old = old.records.old;
     };
   }
@@ -130,8 +130,8 @@ module _ (s : RunMoment) (w : World) (journal : ℕ → Journal) (t : IsWorldOf 
   lives_then : AreLives s.core.now servers_then world_then
   lives_then = lives_alike servers_mid s.core.servers alike_mid w s.core.now (put_as (λ x. x.expiry) s.core.servers a server_then refl) t.tied.lives
 
-  rescues_then : AreRescues servers_then world_then
-  rescues_then = rescues_alike servers_mid s.core.servers alike_mid w t.tied.rescues
+  rescues_then : s.core.over ≡ false → AreRescues servers_then s.core.flights world_then
+  rescues_then e = rescues_alike servers_mid s.core.servers alike_mid w s.core.flights (t.tied.rescues e)
 
   readings_then : AreReadings s.core.setting.segments servers_then world_then
   readings_then = readings_alike servers_mid s.core.servers alike_mid w s.core.setting.segments t.readings

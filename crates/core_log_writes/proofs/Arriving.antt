@@ -35,6 +35,7 @@ use Rattle.sector_world.specs.Guards.{CanReach}
 use Rattle.sector_world.specs.Steps.{stays, goes}
 use Rattle.sector_world.specs.Steps.Event.{Ack, Fail, Reach}
 use Rattle.sector_world.specs.World.{World}
+use Rattle.core_world.specs.Beside.{AreEnds, AreOpen}
 use Rattle.core_world.specs.Journals.{IsJournal, Journal, sector_log}
 use Rattle.core_world.specs.Steps.{IsReached, IsWorldOf}
 use Rattle.core_world.specs.Ties.{AreFlying}
@@ -42,16 +43,15 @@ use Rattle.core_writes.proofs.Journaling.{AreFewer}
 use Rattle.core_writes.proofs.Landing.{arriving_there, once_there}
 use Rattle.core_writes.proofs.Lists.{from_without, gone_at, other_without}
 use Rattle.core_log_writes.specs.Arrivals.{Acknowledges, LeftLogsGrow, LiveLogsGrow, Reaches}
-use Rattle.core_log_writes.specs.LogWrites.{AreOpen, IsLogFlight, LeadsBy}
+use Rattle.core_log_writes.specs.LogWrites.{IsLogFlight, LeadsBy}
 use Rattle.core_log_writes.specs.Failures.{NewLogsFail, OldLogsFail, ReachesAndFails}
-use Rattle.core_log_writes.specs.Marks.{AreEnds}
 use Rattle.core_log_writes.proofs.Acknowledging as known
 use Rattle.core_log_writes.proofs.Failing as failed
 use Rattle.core_log_writes.proofs.Going.{fewer_still, flies_still, left_world, moment_left, moved, opened}
 use Rattle.core_log_writes.proofs.Keeping.{as_journal, as_standing, on_disk, standing}
 use Rattle.core_log_writes.proofs.Reaching as reached
 use Rattle.core_log_writes.proofs.Reaching.{AreOthers, NoneRecovers, StandsAsLeft}
-use Rattle.core_log_writes.proofs.Servers.{OfServer, of_servers}
+use Rattle.core_log_writes.proofs.Servers.{logs_server}
 
 -- a server isn't the host
 pub no_host : (a : ℕ) → IsTrue (is_server a) → (a == host_party) ≡ false
@@ -59,14 +59,6 @@ no_host a who = ne_eqb a host_party (λ e. absurd (apart a (ltb-true a 16 who) e
   where
     apart : (n : ℕ) → n < 16 → n ≡ 255 → ⊥
     apart n h e = absurd (omega (arith, h, e))
-
--- a write of a log is a server's
-logs_server : (s : RunMoment) → IsReached s → (ticket : ℕ) (flight : core.Flight) → value_at s.core.flights ticket ≡ Some flight → (number : ℕ) → flight.purpose ≡ core.OfLog number →
-    IsTrue (is_server flight.server)
-logs_server s r ticket flight at number of =
-    let one = gone_at s.core.flights ticket flight at in
-    subst (λ (f : core.Flight). IsTrue (is_server f.server)) one.2
-    (in_flights OfServer s.core.flights one.0 one.1 (of_servers (setting_of r.script r.segments r.number) r.disk s r.run).logs number (ap (λ (f : core.Flight). f.purpose) one.2 ∙ of))
 
 module _ (ends : LeasesEnd) (once : SectorsStandOnce) (within : StampsAreWithinLeases) (s : RunMoment) (w : World) (journal : ℕ → Journal) (ticket : ℕ) (flight : core.Flight)
     (is : IsLogFlight s w journal ticket flight) (going : IsTrue (not s.core.over)) (early : s.core.now ≤ flight.stamp) where
@@ -193,7 +185,7 @@ module _ (ends : LeasesEnd) (once : SectorsStandOnce) (within : StampsAreWithinL
   open_one : AreOpen s.core.servers s.core.now moment_one.disk journals_one
   open_one = reached.reached_open s w journal is.tied is.good a its_server awake left ticket flight.sector is.number flight.block place sent others lease unread fewer flies is.open_
 
-  reaches : (v : RunMoment) → moment_one.core ≡ v.core → moment_one.disk ≡ v.disk → Reaches w a v
+  reaches : (v : RunMoment) → moment_one.core ≡ v.core → moment_one.disk ≡ v.disk → Reaches w a v journals_one
   reaches v core_is disk_is = record {
     durable = durable_one;
     more = more_one;
@@ -203,10 +195,10 @@ module _ (ends : LeasesEnd) (once : SectorsStandOnce) (within : StampsAreWithinL
           events = Reach a durable_one ∷ [];
           world = world_one;
           run = goes can_one stays;
-          journal = journals_one;
           is = moved moment_one v world_one journals_one core_is disk_is is_one;
         };
         story = record { servers = refl; opening = refl; logged = refl; first = refl; home = refl; history = refl };
+        quiet = (tt, tt);
       };
       by = refl;
       marks = subst (λ (c : Core). AreEnds c.servers world_one journals_one) core_is ends_one;
@@ -236,23 +228,26 @@ module _ (ends : LeasesEnd) (once : SectorsStandOnce) (within : StampsAreWithinL
   abbrev acked_two : ℕ
   acked_two = known.acked_now moment_one world_one journals_one is_one is.good.logged.ops a acks_one its_server awake is.number may_one ends_one
 
-  acknowledges : (v : RunMoment) → moment_two.core ≡ v.core → moment_two.disk ≡ v.disk → Acknowledges w a v
+  known_two : w.acked a ≤ acked_two
+  known_two = known.known_more moment_one world_one journals_one is_one is.good.logged.ops a acks_one its_server awake is.number may_one ends_one
+
+  acknowledges : (v : RunMoment) → moment_two.core ≡ v.core → moment_two.disk ≡ v.disk → Acknowledges w a v journals_two
   acknowledges v core_is disk_is = record {
     durable = durable_one;
     acked = acked_two;
     more = more_one;
-    known = known.known_more moment_one world_one journals_one is_one is.good.logged.ops a acks_one its_server awake is.number may_one ends_one;
+    known = known_two;
     leads = record {
       quiet = record {
         leads = record {
           events = Reach a durable_one ∷ Ack a acked_two ∷ [];
           world = world_two;
           run = goes can_one (goes (known.may_ack moment_one world_one journals_one is_one is.good.logged.ops a acks_one its_server awake is.number may_one ends_one) stays);
-          journal = journals_two;
           is = moved moment_two v world_two journals_two core_is disk_is
               (known.known_world moment_one world_one journals_one is_one is.good.logged.ops a acks_one its_server awake is.number may_one ends_one);
         };
         story = record { servers = refl; opening = refl; logged = refl; first = refl; home = refl; history = refl };
+        quiet = (tt, (known_two, tt));
       };
       by = refl;
       marks = subst (λ (c : Core). AreEnds c.servers world_two journals_two) core_is
@@ -270,7 +265,7 @@ module _ (ends : LeasesEnd) (once : SectorsStandOnce) (within : StampsAreWithinL
   abbrev world_three : World
   world_three = failed.world_then moment_one world_one journals_one is_one a
 
-  reaches_and_fails : (v : RunMoment) → moment_three.core ≡ v.core → moment_three.disk ≡ v.disk → ReachesAndFails w a v
+  reaches_and_fails : (v : RunMoment) → moment_three.core ≡ v.core → moment_three.disk ≡ v.disk → ReachesAndFails w a v journals_one
   reaches_and_fails v core_is disk_is = record {
     durable = durable_one;
     more = more_one;
@@ -280,10 +275,10 @@ module _ (ends : LeasesEnd) (once : SectorsStandOnce) (within : StampsAreWithinL
           events = Reach a durable_one ∷ Fail a ∷ [];
           world = world_three;
           run = goes can_one (goes tt stays);
-          journal = journals_one;
           is = moved moment_three v world_three journals_one core_is disk_is (failed.failed_world moment_one world_one journals_one is_one a);
         };
         story = record { servers = refl; opening = refl; logged = refl; first = refl; home = refl; history = refl };
+        quiet = (tt, (tt, tt));
       };
       by = refl;
       marks = subst (λ (c : Core). AreEnds c.servers world_three journals_one) core_is (failed.failed_ends moment_one world_one journals_one is_one a ends_one);
@@ -305,17 +300,17 @@ module _ (ends : LeasesEnd) (once : SectorsStandOnce) (within : StampsAreWithinL
   abbrev world_failed : World
   world_failed = failed.world_then moment_gone w journal is_gone a
 
-  fails : (v : RunMoment) → moment_failed.core ≡ v.core → moment_failed.disk ≡ v.disk → LeadsBy w (Fail a ∷ []) v
+  fails : (v : RunMoment) → moment_failed.core ≡ v.core → moment_failed.disk ≡ v.disk → LeadsBy w (Fail a ∷ []) v journal
   fails v core_is disk_is = record {
     quiet = record {
       leads = record {
         events = Fail a ∷ [];
         world = world_failed;
         run = goes tt stays;
-        journal = journal;
         is = moved moment_failed v world_failed journal core_is disk_is (failed.failed_world moment_gone w journal is_gone a);
       };
       story = record { servers = refl; opening = refl; logged = refl; first = refl; home = refl; history = refl };
+      quiet = (tt, tt);
     };
     by = refl;
     marks = subst (λ (c : Core). AreEnds c.servers world_failed journal) core_is (failed.failed_ends moment_gone w journal is_gone a is.marks);

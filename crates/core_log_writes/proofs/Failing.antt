@@ -17,12 +17,11 @@ use Rattle.sector_world.specs.Histories.{settled}
 use Rattle.sector_world.specs.Steps.{after}
 use Rattle.sector_world.specs.Steps.Event.{Fail}
 use Rattle.sector_world.specs.World.{World, Up, cover, has_version}
+use Rattle.core_world.specs.Beside.{AreEnds, AreOpen, AtCached, IsEnd}
 use Rattle.core_world.specs.Journals.{Journal}
 use Rattle.core_world.specs.Steps.{IsWorldOf}
 use Rattle.core_world.specs.Ties.{AreLives, AreRescues, AreTied, IsCachedAs, IsRescueOf, IsStuck, expiry_at, phase_of}
 use Rattle.core_world.proofs.Same.{AreAlike, journals_alike, logged_alike, marked_alike, put_as, readings_alike}
-use Rattle.core_log_writes.specs.LogWrites.{AreOpen}
-use Rattle.core_log_writes.specs.Marks.{AreEnds, AtCached, IsEnd}
 
 -- who is up in the world is in a mount
 up_mounted : (p : life.Phase) → phase_of p ≡ Up → is_in_mount p ≡ true
@@ -64,9 +63,9 @@ module _ (s : RunMoment) (w : World) (journal : ℕ → Journal) (t : IsWorldOf 
         (λ n e up. at_put (λ y. y ≡ false) w.sick a true b (λ i. absurd (n i)) (λ m. t.tied.lives.well b e up));
   }
 
-  rescues_then : AreRescues servers_then world_then
-  rescues_then = record {
-    under_way = λ b x. at_put (λ (y : Server). IsTrue ((is_server b && is_up y.phase) || b == host_party) → y.recovery ≡ Some x → IsRescueOf b x w.rescue ⊎ IsStuck y.failed x) s.core.servers a
+  rescues_then : AreRescues s.core.servers s.core.flights w → AreRescues servers_then s.core.flights world_then
+  rescues_then known = record {
+    under_way = λ b x. at_put (λ (y : Server). IsTrue ((is_server b && is_up y.phase) || b == host_party) → y.recovery ≡ Some x → IsRescueOf b x w.rescue ⊎ IsStuck b s.core.flights y.failed x) s.core.servers a
         (failed_by (s.core.servers a)) b
         (λ i works e. ⊎_elim (λ q. inl q) (λ z. inr (record {
           has_failed = or_left (s.core.servers a).failed (is_in_mount (s.core.servers a).phase) z.has_failed;
@@ -74,15 +73,16 @@ module _ (s : RunMoment) (w : World) (journal : ℕ → Journal) (t : IsWorldOf 
           block = z.block;
           looked = z.looked;
           unwritten = z.unwritten;
+          unsent = z.unsent;
         })) (before b x i works e))
-        (λ n. t.tied.rescues.under_way b x);
-    known = λ q e. let k = t.tied.rescues.known q e in (k.0, same (λ x. x.recovery) refl q.by ∙ k.1, k.2);
+        (λ n. known.under_way b x);
+    known = λ q e. let k = known.known q e in (k.0, same (λ x. x.recovery) refl q.by ∙ k.1, k.2);
   }
     where
       before : (b : ℕ) (x : Recovery) → b ≡ a → IsTrue ((is_server b && is_up (s.core.servers a).phase) || b == host_party) → (s.core.servers a).recovery ≡ Some x →
-          IsRescueOf b x w.rescue ⊎ IsStuck (s.core.servers a).failed x
-      before b x i works e = subst (λ n. IsRescueOf b x w.rescue ⊎ IsStuck (s.core.servers n).failed x) i
-          (t.tied.rescues.under_way b x (subst (λ n. IsTrue ((is_server b && is_up (s.core.servers n).phase) || b == host_party)) (sym i) works) (ap (λ n. (s.core.servers n).recovery) i ∙ e))
+          IsRescueOf b x w.rescue ⊎ IsStuck b s.core.flights (s.core.servers a).failed x
+      before b x i works e = subst (λ n. IsRescueOf b x w.rescue ⊎ IsStuck b s.core.flights (s.core.servers n).failed x) i
+          (known.under_way b x (subst (λ n. IsTrue ((is_server b && is_up (s.core.servers n).phase) || b == host_party)) (sym i) works) (ap (λ n. (s.core.servers n).recovery) i ∙ e))
 
   -- the servers then, but for the failure
   abbrev servers_mid : ℕ → Server
@@ -102,7 +102,7 @@ module _ (s : RunMoment) (w : World) (journal : ℕ → Journal) (t : IsWorldOf 
     marked = marked_alike servers_mid s.core.servers alike_mid w caches_then t.tied.marked;
     flying = t.tied.flying;
     disk = t.tied.disk;
-    rescues = rescues_then;
+    rescues = λ e. rescues_then (t.tied.rescues e);
     logged = logged_alike servers_mid s.core.servers alike_mid w t.tied.logged;
   }
 

@@ -16,15 +16,17 @@ use Rattle.core_laws.proofs.Membership.{contains_in, in_contains}
 use Rattle.core_laws.specs.Laws.{SectorsStandOnce}
 use Rattle.sector_world.specs.Steps.{stays}
 use Rattle.sector_world.specs.World.{World}
+use Rattle.core_world.specs.Beside.{AreEnds, AreOpen, NoneFlies}
 use Rattle.core_world.specs.Journals.{Journal}
+use Rattle.core_world.proofs.Same.{rescues_on}
 use Rattle.core_world.specs.Steps.{IsWorldOf}
 use Rattle.core_world.specs.Ties.{AreFlying}
 use Rattle.core_writes.proofs.Going.{flying_on, put_none}
 use Rattle.core_writes.proofs.Journaling.{AreFewer, fewer_journals}
-use Rattle.core_writes.proofs.Lists.{from_without}
-use Rattle.core_log_writes.specs.LogWrites.{AreOpen, IsLogFlight, LeadsBy, LogsBeginOpen}
+use Rattle.core_writes.proofs.Lists.{fewer_those, from_without}
+use Rattle.core_log_writes.proofs.Servers.{logs_place}
+use Rattle.core_log_writes.specs.LogWrites.{IsLogFlight, LeadsBy, LogsBeginOpen}
 use Rattle.core_log_writes.specs.Gone.{LateLogsAreNone, LostLogsAreNone}
-use Rattle.core_log_writes.specs.Marks.{AreEnds}
 
 -- a world of a moment is one of each with the same core and disk
 pub moved : (m v : RunMoment) (w : World) (journal : ℕ → Journal) → m.core ≡ v.core → m.disk ≡ v.disk → IsWorldOf m w journal → IsWorldOf v w journal
@@ -41,11 +43,14 @@ module _ (once : SectorsStandOnce) (s : RunMoment) (w : World) (journal : ℕ �
   abbrev pub moment_left : RunMoment
   moment_left = record s { core = landed s.core ticket }
 
+  none_there : NoneFlies w flight.sector
+  none_there = is.none flight.sector (logs_place s is.reached ticket flight is.at is.number is.of_log)
+
   pub flies_still : AreFlying s.core.setting.segments s.core.now (without s.core.flights ticket) w
   flies_still =
-      subst (λ x. AreFlying s.core.setting.segments s.core.now (without s.core.flights ticket) (record w { flight = x })) (put_none w.flight flight.sector is.none.0)
+      subst (λ x. AreFlying s.core.setting.segments s.core.now (without s.core.flights ticket) (record w { flight = x })) (put_none w.flight flight.sector none_there.0)
       (subst (λ x. AreFlying s.core.setting.segments s.core.now (without s.core.flights ticket) (record w { flight = put w.flight flight.sector None; byte_flight = x }))
-      (put_none w.byte_flight flight.sector is.none.1)
+      (put_none w.byte_flight flight.sector none_there.1)
       (flying_on s.core.setting.segments s.core.now s.core.flights ticket flight is.at
       (once_of (sectors_in s.core.flights) (once (setting_of is.reached.script is.reached.segments is.reached.number) is.reached.disk s is.reached.run)) w
       (is.tied.tied.flying (not-true s.core.over going))))
@@ -62,18 +67,19 @@ module _ (once : SectorsStandOnce) (s : RunMoment) (w : World) (journal : ℕ �
       marked = is.tied.tied.marked;
       flying = λ e. flies_still;
       disk = is.tied.tied.disk;
-      rescues = is.tied.tied.rescues;
+      rescues = λ e. rescues_on s.core.servers (without s.core.flights ticket) s.core.flights w (fewer_those s.core.flights ticket) (is.tied.tied.rescues e);
       logged = is.tied.tied.logged;
     };
     journals = fewer_journals s.core.servers s.core.now s.core.flights (without s.core.flights ticket) s.disk w journal fewer_still is.tied.journals;
     readings = is.tied.readings;
   }
 
-  goes_by_none : (v : RunMoment) → moment_left.core ≡ v.core → moment_left.disk ≡ v.disk → LeadsBy w [] v
+  goes_by_none : (v : RunMoment) → moment_left.core ≡ v.core → moment_left.disk ≡ v.disk → LeadsBy w [] v journal
   goes_by_none v core_is disk_is = record {
     quiet = record {
-      leads = record { events = []; world = w; run = stays; journal = journal; is = moved moment_left v w journal core_is disk_is left_world };
+      leads = record { events = []; world = w; run = stays; is = moved moment_left v w journal core_is disk_is left_world };
       story = record { servers = refl; opening = refl; logged = refl; first = refl; home = refl; history = refl };
+      quiet = tt;
     };
     by = refl;
     marks = subst (λ (c : Core). AreEnds c.servers w journal) core_is is.marks;

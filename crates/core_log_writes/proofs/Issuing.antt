@@ -1,5 +1,5 @@
 -- A write of a server's own log is issued: the first sector that waits is on its way, and else the journals are as they were.
-use Rattle.std.proofs.Common.{◌≡◌, ◌⊎◌, ℕ, suc, ◌+◌, ◌<◌, ◌≤◌, ◌==◌, ◌&&◌, ◌||◌, Bool, true, false, not, IsTrue, List, [], ◌∷◌, ◌++◌, Option, Some, None, length, drop, refl, sym, ap, ◌∙◌, subst, inl, inr, arith}
+use Rattle.std.proofs.Common.{◌≡◌, ◌⊎◌, ℕ, suc, ◌+◌, ◌<◌, ◌≤◌, ◌==◌, ◌&&◌, ◌||◌, Bool, true, false, not, IsTrue, List, [], ◌∷◌, ◌++◌, Option, Some, None, length, drop, refl, sym, ap, ◌∙◌, subst, inl, inr, ⊎_elim, arith}
 use Rattle.std.proofs.lemmas.Bool.{cases_eq, false≢true, ne_eqb, not-true}
 use Rattle.std.proofs.lemmas.List.{length-append}
 use Rattle.std.proofs.lemmas.List.Elements.{Contains-push_cases}
@@ -38,15 +38,15 @@ use Rattle.core_laws.specs.Facts.{LogWritesKeepTheWindow}
 use Rattle.sector_world.specs.Histories.{settled}
 use Rattle.sector_world.specs.Steps.{stays}
 use Rattle.sector_world.specs.World.{World, cover, has_version}
-use Rattle.core_world.specs.Journals.{AreJournals, IsJournal, IsLogOf, IsSent, Journal, SectorLog, sector_log}
+use Rattle.core_world.specs.Beside.{AreEnds, AreOpen, AtCached, IsEnd}
+use Rattle.core_world.specs.Journals.{AreJournals, IsJournal, IsLogOf, IsSent, Journal, SectorLog, sector_log, with_event_of}
 use Rattle.core_world.specs.Steps.{IsWorldOf}
 use Rattle.core_world.specs.Ties.{AreLogged, AreMarked, AreTied, IsCachedAs, IsMarkedAs, is_log_sector}
-use Rattle.core_world.proofs.Same.{AreAlike, lives_alike, put_as, readings_alike, rescues_alike}
+use Rattle.core_world.proofs.Same.{AreAlike, lives_alike, put_as, readings_alike, rescues_alike, rescues_more}
 use Rattle.core_writes.specs.Issues.{is_log_purpose, is_log_write}
 use Rattle.core_writes.proofs.Flies.{flying_log}
 use Rattle.core_writes.proofs.LogPlaces.{at_log}
-use Rattle.core_log_writes.specs.LogWrites.{AreOpen, LeadsBy}
-use Rattle.core_log_writes.specs.Marks.{AreEnds, AtCached, IsEnd}
+use Rattle.core_log_writes.specs.LogWrites.{LeadsBy}
 use Rattle.core_log_writes.proofs.Going.{moved, opened}
 use Rattle.core_log_writes.specs.Issues.{LogIssuesGoOn}
 use Rattle.core_log_writes.proofs.Arriving.{no_host}
@@ -225,7 +225,10 @@ module _ (s : RunMoment) (w : World) (journal : ℕ → Journal) (t : IsWorldOf 
       was = open_ b server (subst (λ p. IsTrue (is_dead p)) (put_as (λ x. x.phase) s.core.servers a server_then refl b) dead)
           (subst (λ n. s.core.now ≤ n) (put_as (λ x. x.expiry) s.core.servers a server_then refl b) early) slot low
 
-  module _ (going : IsTrue (not s.core.over)) (alone : IsTrue (not (core.is_flying s.core.flights sector))) (log : is_log_sector s.core.setting.segments sector ≡ true) where
+  module _ (going : IsTrue (not s.core.over)) (well : IsTrue (not (s.core.servers a).failed)) (alone : IsTrue (not (core.is_flying s.core.flights sector))) (log : is_log_sector s.core.setting.segments sector ≡ true) where
+    more_of : (one : ℕ × core.Flight) → Contains flights_then one → Contains s.core.flights one ⊎ (one.1.server ≡ a)
+    more_of one i = ⊎_elim (λ j. inl j) (λ e. inr (ap (λ (x : ℕ × core.Flight). x.1.server) (sym e))) (Contains-push_cases s.core.flights more one i)
+
     tied_then : AreTied core_then s.disk w
     tied_then = record {
       lives = lives_alike servers_mid s.core.servers alike_mid w s.core.now (put_as (λ x. x.expiry) s.core.servers a server_then refl) t.tied.lives;
@@ -235,22 +238,23 @@ module _ (s : RunMoment) (w : World) (journal : ℕ → Journal) (t : IsWorldOf 
       flying = λ e. flying_log s.core.setting.segments s.core.now s.core.flights s.core.tickets (flight_of s.core a sector (next_log_write a number block)) alone w
           (t.tied.flying (not-true s.core.over going)) log;
       disk = t.tied.disk;
-      rescues = rescues_alike servers_mid s.core.servers alike_mid w t.tied.rescues;
+      rescues = λ e. rescues_alike servers_mid s.core.servers alike_mid w flights_then
+          (rescues_more s.core.servers flights_then s.core.flights w a (not-true (s.core.servers a).failed well) more_of (t.tied.rescues e));
       logged = logged_then;
     }
 
-    pub leads_by_none : AreEnds s.core.servers w journal → AreOpen s.core.servers s.core.now s.disk journal → (v : RunMoment) → core_then ≡ v.core → s.disk ≡ v.disk → LeadsBy w [] v
+    pub leads_by_none : AreEnds s.core.servers w journal → AreOpen s.core.servers s.core.now s.disk journal → (v : RunMoment) → core_then ≡ v.core → s.disk ≡ v.disk → LeadsBy w [] v journals_then
     leads_by_none marks open_ v core_is disk_is = record {
       quiet = record {
         leads = record {
           events = [];
           world = w;
           run = stays;
-          journal = journals_then;
           is = moved (record s { core = core_then }) v w journals_then core_is disk_is
               (record { tied = tied_then; journals = journals_of; readings = readings_alike servers_mid s.core.servers alike_mid w s.core.setting.segments t.readings });
         };
         story = record { servers = refl; opening = refl; logged = refl; first = refl; home = refl; history = refl };
+        quiet = tt;
       };
       by = refl;
       marks = subst (λ (c : Core). AreEnds c.servers w journals_then) core_is (ends_then marks);
@@ -276,9 +280,9 @@ log_issues_go_on windows s w journal a sector r t marks open_ m log = go (value_
     setting_is = setting_of_run (setting_of r.script r.segments r.number) r.disk s r.run
 
     of_log : (number : ℕ) (block : Block) → next_write (s.core.servers a).ring ≡ Some (number, block) → sector ≡ log_sector s.core.setting.logs a number →
-        value_at (writes s.core a) sector ≡ Some (next_log_write a number block) → LeadsBy w [] (next s (core_events.Issue a sector) Nothing)
+        value_at (writes s.core a) sector ≡ Some (next_log_write a number block) → LeadsBy w [] (next s (core_events.Issue a sector) Nothing) (with_event_of journal a Issue)
     of_log number block following at e =
-        leads_by_none s w journal t a who awake sector number block following window m.can.going m.can.can.issuable.alone in_log marks open_ (next s (core_events.Issue a sector) Nothing)
+        leads_by_none s w journal t a who awake sector number block following window m.can.going m.can.can.issuable.well m.can.can.issuable.alone in_log marks open_ (next s (core_events.Issue a sector) Nothing)
         (sym (ap (issued_as s.core a sector) e)) refl
       where
         who : IsTrue (is_server a)
@@ -296,11 +300,11 @@ log_issues_go_on windows s w journal a sector r t marks open_ m log = go (value_
             ap (is_log_sector s.core.setting.segments) (at ∙ ap (λ (setting : Setting). log_sector setting.logs a number) setting_is) ∙ at_log s.core.setting.segments a number (server_low a who)
 
     by_kind : (write : Write) → value_at (writes s.core a) sector ≡ Some write → Wanted s.core.setting.logs s.core.setting.segments a (s.core.servers a) sector write →
-        LeadsBy w [] (next s (core_events.Issue a sector) Nothing)
+        LeadsBy w [] (next s (core_events.Issue a sector) Nothing) (with_event_of journal a Issue)
     by_kind write e (Rescues recovery block has there is) = absurd (false≢true (sym (ap (λ (x : Write). is_log_purpose x.purpose) is) ∙ sym (ap is_log_write e) ∙ log))
     by_kind write e (Places cached dirt there dirty is) = absurd (false≢true (sym (ap (λ (x : Write). is_log_purpose x.purpose) is) ∙ sym (ap is_log_write e) ∙ log))
     by_kind write e (NextOfLog number block following at is) = of_log number block following at (e ∙ ap Some is)
 
-    go : (o : Option Write) → value_at (writes s.core a) sector ≡ o → LeadsBy w [] (next s (core_events.Issue a sector) Nothing)
+    go : (o : Option Write) → value_at (writes s.core a) sector ≡ o → LeadsBy w [] (next s (core_events.Issue a sector) Nothing) (with_event_of journal a Issue)
     go None e = absurd (false≢true (sym (ap is_log_write e) ∙ log))
     go (Some write) e = by_kind write e (wanted_is s.core.setting s.core.locks a (s.core.servers a) (stage s.core a) sector write e)

@@ -1,5 +1,6 @@
 pub mod Furthest
 pub mod Marking
+pub mod Quiet
 pub mod Keeping
 pub mod Reaching
 pub mod Acknowledging

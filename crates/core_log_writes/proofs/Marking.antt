@@ -4,9 +4,10 @@ use Rattle.cache_definitions.specs.declared.dirt.Dirt.{Dirt}
 use Rattle.cache_definitions.specs.Caches.{CachedSector}
 use Rattle.sector_world.specs.Histories.{Item}
 use Rattle.sector_world.specs.World.{Slot, Absent, Clean, Dirty, Page, NoPage, CleanPage, DirtyPage, FreedPage}
+use Rattle.core_world.specs.Beside.{AtCached, AtDirt, AtPage, AtSlot, IsEnd}
 use Rattle.core_world.specs.Journals.{IsUpTo}
 use Rattle.core_world.specs.Ties.{IsDirtAs, IsMark, IsMarkedAs, IsPageMark, IsSlotMark}
-use Rattle.core_log_writes.specs.Marks.{AtCached, AtDirt, AtPage, AtSlot, EndsAreMarks, EndsBegin, IsEnd}
+use Rattle.core_log_writes.specs.Marks.{EndsAreMarks, EndsBegin}
 use Rattle.core_log_writes.proofs.Furthest.{own_up_to}
 
 module _ (Ties Others : ℕ → ℕ → Type 0) (on : (mark m : ℕ) → Ties mark m → Others mark m) where

@@ -32,14 +32,15 @@ use Rattle.sector_world.specs.Kinds.{Good}
 use Rattle.sector_world.specs.Steps.{after}
 use Rattle.sector_world.specs.Steps.Event.{Reach}
 use Rattle.sector_world.specs.World.{World}
+use Rattle.core_world.specs.Beside.{AreEnds, AreOpen, AtCached, IsEnd}
 use Rattle.core_world.specs.Journals.{AreJournals, AreReadings, IsJournal, IsLogOf, Journal, sector_log}
 use Rattle.core_world.specs.Readings.{AreNamed, ReadsAs}
+use Rattle.core_world.proofs.Same.{rescues_on}
 use Rattle.core_world.specs.Steps.{IsWorldOf}
+use Rattle.core_writes.proofs.Lists.{fewer_those}
 use Rattle.core_world.specs.Ties.{AreFlying, AreTied, is_log_sector, is_working}
 use Rattle.core_writes.proofs.Journaling.{AreFewer, landed_log}
 use Rattle.core_writes.proofs.LogPlaces.{at_log}
-use Rattle.core_log_writes.specs.LogWrites.{AreOpen}
-use Rattle.core_log_writes.specs.Marks.{AreEnds, AtCached, IsEnd}
 use Rattle.sector_world.specs.Histories.{settled}
 use Rattle.core_log_writes.proofs.Furthest.{can_reach, counted_further, durable_more, durable_then}
 use Rattle.core_log_writes.proofs.Keeping.{as_journal, as_log, as_sent, as_standing, on_slot, standing}
@@ -166,7 +167,7 @@ module _ (s : RunMoment) (w : World) (journal : ℕ → Journal) (t : IsWorldOf 
     marked = t.tied.marked;
     flying = λ e. flies;
     disk = λ x out. t.tied.disk x out ∙ sym (on_disk_then x out);
-    rescues = t.tied.rescues;
+    rescues = λ e. rescues_on s.core.servers (without s.core.flights ticket) s.core.flights w (fewer_those s.core.flights ticket) (t.tied.rescues e);
     logged = t.tied.logged;
   }
 

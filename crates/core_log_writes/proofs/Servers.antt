@@ -16,7 +16,8 @@ use Rattle.core_definitions.specs.Rings.{next_write}
 use Rattle.core_definitions.specs.Runs.{State, Run, first_state}
 use Rattle.core_definitions.specs.Scripts.{host_party}
 use Rattle.core_definitions.specs.Servers.{Server, is_up, wanting_all}
-use Rattle.core_definitions.specs.Settings.{Setting}
+use Rattle.core_definitions.specs.Logs.{log_sector}
+use Rattle.core_definitions.specs.Settings.{Setting, setting_of}
 use Rattle.core_definitions.specs.WriteEffects.{acknowledged, clean_now, ring_after}
 use Rattle.core_definitions.specs.Writes.{Write, comes_clean}
 use Rattle.core_facts.proofs.Turns as turns
@@ -25,6 +26,14 @@ use Rattle.core_facts.proofs.WriteKinds.{Wanted, Rescues, Places, NextOfLog, wan
 use Rattle.core_journals.proofs.FlightChanges.{FlightFrom, Flew, New, turn_flights}
 use Rattle.core_laws.proofs.Along.{along}
 use Rattle.core_laws.proofs.FlightLists.{AllFlights, all_flights, in_flights}
+use Rattle.core_facts.proofs.Reading.{server_low}
+use Rattle.core_laws.proofs.Kept.{setting_of_run}
+use Rattle.core_laws.proofs.Membership.{in_contains}
+use Rattle.core_laws.proofs.Windows.{slots_kept}
+use Rattle.core_world.specs.Steps.{IsReached}
+use Rattle.core_world.specs.Ties.{is_log_sector}
+use Rattle.core_writes.proofs.Lists.{gone_at}
+use Rattle.core_writes.proofs.LogPlaces.{at_log}
 use Rattle.core_writes.specs.Issues.{is_log_purpose}
 
 abbrev pub NoneWait : (ℕ → Server) → Type 0
@@ -158,3 +167,23 @@ of_servers setting disk =
     along setting disk (λ s. AreOfServers s.core.servers s.core.flights)
     (λ s v run step m. record { none = turn_none s (work_of v) (step_turn s v step) m.none; logs = turn_logs s (work_of v) (step_turn s v step) m })
     (record { none = λ i e. refl; logs = tt })
+
+-- a write of a log is a server's
+pub logs_server : (s : State) → IsReached s → (ticket : ℕ) (flight : Flight) → value_at s.core.flights ticket ≡ Some flight → (number : ℕ) → flight.purpose ≡ OfLog number → IsTrue (is_server flight.server)
+logs_server s r ticket flight at number of =
+    let one = gone_at s.core.flights ticket flight at in
+    subst (λ (f : Flight). IsTrue (is_server f.server)) one.2
+    (in_flights OfServer s.core.flights one.0 one.1 (of_servers (setting_of r.script r.segments r.number) r.disk s r.run).logs number (ap (λ (f : Flight). f.purpose) one.2 ∙ of))
+
+-- and lies in it
+pub logs_place : (s : State) → IsReached s → (ticket : ℕ) (flight : Flight) → value_at s.core.flights ticket ≡ Some flight → (number : ℕ) → flight.purpose ≡ OfLog number →
+    is_log_sector s.core.setting.segments flight.sector ≡ true
+logs_place s r ticket flight at number of =
+    ap (is_log_sector s.core.setting.segments) (place ∙ ap (λ (setting : Setting). log_sector setting.logs flight.server number) (setting_of_run (setting_of r.script r.segments r.number) r.disk s r.run))
+    ∙ at_log s.core.setting.segments flight.server number (server_low flight.server (logs_server s r ticket flight at number of))
+  where
+    place : flight.sector ≡ log_sector s.core.setting.logs flight.server number
+    place =
+        let one = gone_at s.core.flights ticket flight at in
+        subst (λ (f : Flight). f.sector ≡ log_sector s.core.setting.logs f.server number) one.2
+        (slots_kept (setting_of r.script r.segments r.number) r.disk s r.run one.0 number (in_contains s.core.flights one.0 one.1) (ap (λ (f : Flight). f.purpose) one.2 ∙ of))

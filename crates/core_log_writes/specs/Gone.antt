@@ -11,10 +11,10 @@ use Rattle.core_log_writes.specs.LogWrites.{IsLogFlight, LeadsBy}
 abbrev pub LateLogsAreNone : Type 0
 LateLogsAreNone =
     (s : RunMoment) (w : World) (journal : ℕ → Journal) (ticket : ℕ) (flight : core.Flight) → IsLogFlight s w journal ticket flight → Makes s (Arrive ticket) Late →
-    LeadsBy w [] (next s (Arrive ticket) Late)
+    LeadsBy w [] (next s (Arrive ticket) Late) journal
 
 -- and one that is lost with a dead server
 abbrev pub LostLogsAreNone : Type 0
 LostLogsAreNone =
     (s : RunMoment) (w : World) (journal : ℕ → Journal) (ticket : ℕ) (flight : core.Flight) → IsLogFlight s w journal ticket flight → Makes s (Lose ticket) Nothing →
-    LeadsBy w [] (next s (Lose ticket) Nothing)
+    LeadsBy w [] (next s (Lose ticket) Nothing) journal

@@ -1,4 +1,5 @@
 pub mod Marks
+pub mod Quiet
 pub mod LogWrites
 pub mod Issues
 pub mod Arrivals

@@ -14,7 +14,7 @@ mod gone;
 mod issues;
 
 pub use arrivals::log_writes_reach_the_disk;
-pub use beside::{logs_begin_open, marks_lie_where_operations_end};
+pub use beside::{logs_begin_open, marks_lie_where_operations_end, quiet_events_leave_marks};
 pub use failures::log_writes_fail;
 pub use gone::log_writes_are_gone;
 pub use issues::log_writes_are_issued;

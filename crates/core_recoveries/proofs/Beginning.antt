@@ -152,9 +152,9 @@ module _ (s : RunMoment) (w : World) (journal : ℕ → Journal) (dead by : ℕ)
   lease : w.expiry by ≡ expiry_of s.core by
   lease = t.tied.lives.expiry by ∙ ap (λ n. if by == host_party then n else (s.core.servers by).expiry) (sym (lasts s r s.core.now))
 
-  rescues : AreRescues servers_then begun
+  rescues : AreRescues servers_then s.core.flights begun
   rescues = record {
-    under_way = λ b recovery. at_put (λ x. IsTrue ((is_server b && is_up x.phase) || b == host_party) → x.recovery ≡ Some recovery → IsRescueOf b recovery begun.rescue ⊎ IsStuck x.failed recovery)
+    under_way = λ b recovery. at_put (λ x. IsTrue ((is_server b && is_up x.phase) || b == host_party) → x.recovery ≡ Some recovery → IsRescueOf b recovery begun.rescue ⊎ IsStuck b s.core.flights x.failed recovery)
         s.core.servers by new b
         (λ i who e. inl (subst (λ q. IsRescueOf b q begun.rescue) (same_Some (recovery_of dead) recovery e) (record { r = rescue; is = refl; dead = refl; who = sym i; told = λ x. refl })))
         (λ n who e. absurd (none_recovers s.core dead by can b recovery.dead who (ap dead_of e)));
@@ -176,7 +176,7 @@ module _ (s : RunMoment) (w : World) (journal : ℕ → Journal) (dead by : ℕ)
     marked = marked_but servers_then s.core.servers but w t.tied.marked;
     flying = t.tied.flying;
     disk = t.tied.disk;
-    rescues = rescues;
+    rescues = λ e. rescues;
     logged = logged_but servers_then s.core.servers but w t.tied.logged;
   }
 
@@ -186,13 +186,12 @@ module _ (s : RunMoment) (w : World) (journal : ℕ → Journal) (dead by : ℕ)
       ReadsAs w recovery.dead (redos disk_logs recovery) × AreNamed s.core.setting.segments w recovery.dead (redos disk_logs recovery)) s.core.servers by new b
       (λ i who e all. absurd (none_read (ap (λ (x : Recovery). is_read disk_logs x.slots) (same_Some (recovery_of dead) recovery e) ∙ all))) (λ n. t.readings b recovery)
 
-  pub begins_so : LeadsQuietly w (next s (core_events.Recover dead by) Nothing)
+  pub begins_so : LeadsQuietly w (next s (core_events.Recover dead by) Nothing) journal
   begins_so = record {
     leads = record {
       events = Begin dead by ∷ [];
       world = begun;
       run = goes guard stays;
-      journal = journal;
       is = record {
         tied = tied;
         journals = journals_but servers_then s.core.servers but begun s.core.now s.core.flights s.disk journal t.journals;
@@ -200,6 +199,7 @@ module _ (s : RunMoment) (w : World) (journal : ℕ → Journal) (dead by : ℕ)
       };
     };
     story = record { servers = refl; opening = refl; logged = refl; first = refl; home = refl; history = refl };
+    quiet = (tt, tt);
   }
 
 pub begins : HostsAreOff → BeginsAreEvents

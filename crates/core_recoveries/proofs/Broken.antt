@@ -44,7 +44,7 @@ module _ (s : RunMoment) (w : World) (journal : ℕ → Journal) (t : IsWorldOf 
     marked = marked_but servers_then c.servers but w t.tied.marked;
     flying = t.tied.flying;
     disk = t.tied.disk;
-    rescues = broken_rescues c.servers a w t.tied.rescues;
+    rescues = λ e. broken_rescues c.servers a w c.flights (t.tied.rescues e);
     logged = logged_but servers_then c.servers but w t.tied.logged;
   }
 
@@ -52,13 +52,12 @@ module _ (s : RunMoment) (w : World) (journal : ℕ → Journal) (t : IsWorldOf 
   moment d = record { core = d; disk = s.disk; record_ = deeds }
 
   -- of a server
-  server_fails : LeadsQuietly w (moment (with_server c a new))
+  server_fails : LeadsQuietly w (moment (with_server c a new)) journal
   server_fails = record {
     leads = record {
       events = Fail a ∷ [];
       world = failed;
       run = goes tt stays;
-      journal = journal;
       is = record {
         tied = tied;
         journals = journals_but servers_then c.servers but failed c.now c.flights s.disk journal t.journals;
@@ -66,16 +65,16 @@ module _ (s : RunMoment) (w : World) (journal : ℕ → Journal) (t : IsWorldOf 
       };
     };
     story = record { servers = refl; opening = refl; logged = refl; first = refl; home = refl; history = refl };
+    quiet = (tt, tt);
   }
 
   -- of the host: it is over
-  host_fails : LeadsQuietly w (moment (record c { over = true }))
+  host_fails : LeadsQuietly w (moment (record c { over = true })) journal
   host_fails = record {
     leads = record {
       events = [];
       world = w;
       run = stays;
-      journal = journal;
       is = record {
         tied = record {
           lives = t.tied.lives;
@@ -84,7 +83,7 @@ module _ (s : RunMoment) (w : World) (journal : ℕ → Journal) (t : IsWorldOf 
           marked = t.tied.marked;
           flying = λ e. absurd (false≢true (sym e));
           disk = t.tied.disk;
-          rescues = t.tied.rescues;
+          rescues = λ e. absurd (false≢true (sym e));
           logged = t.tied.logged;
         };
         journals = t.journals;
@@ -92,13 +91,14 @@ module _ (s : RunMoment) (w : World) (journal : ℕ → Journal) (t : IsWorldOf 
       };
     };
     story = record { servers = refl; opening = refl; logged = refl; first = refl; home = refl; history = refl };
+    quiet = tt;
   }
 
   -- by whose call it is
-  pub call_fails : LeadsQuietly w (moment (if a == host_party then record c { over = true } else with_server c a new))
+  pub call_fails : LeadsQuietly w (moment (if a == host_party then record c { over = true } else with_server c a new)) journal
   call_fails = go (a == host_party)
     where
-      go : (h : Bool) → LeadsQuietly w (moment (if h then record c { over = true } else with_server c a new))
+      go : (h : Bool) → LeadsQuietly w (moment (if h then record c { over = true } else with_server c a new)) journal
       go true = host_fails
       go false = server_fails
 

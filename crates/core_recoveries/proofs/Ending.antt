@@ -1,6 +1,6 @@
 -- A recovery that ends is Fade of what is late, Look of each sector that its records name, and Finish.
 use Rattle.std.proofs.Common.{◌≡◌, ◌≢◌, ◌⊎◌, ℕ, ◌≤◌, ◌==◌, Bool, true, false, ◌&&◌, ◌||◌, IsTrue, List, [], ◌∷◌, ◌++◌, map, Some, None, le_refl, refl, sym, ap, ◌∙◌, subst, inl, inr, ⊎_elim}
-use Rattle.std.proofs.lemmas.Bool.{cases_eq, or_right}
+use Rattle.std.proofs.lemmas.Bool.{cases_eq, not-true, or_right}
 use Rattle.std.proofs.lemmas.Option.{none-some}
 use Rattle.frang_base.specs.Functions.{put}
 use Rattle.frang_base.proofs.Basics.{at_put, put_other}
@@ -39,6 +39,8 @@ use Rattle.sector_world.proofs.OneDisk.{one_disk_good}
 use Rattle.core_lives.proofs.Emptying.{joined}
 use Rattle.core_lives.specs.Lives.{LeadsWith}
 use Rattle.core_world.specs.Journals.{AreJournals, AreReadings, IsAtRest, IsLogOf, Journal, sector_log}
+use Rattle.core_world.proofs.Quiet.{quiet_both}
+use Rattle.core_world.specs.Quiet.{AllQuiet}
 use Rattle.core_world.specs.Steps.{IsReached, IsWorldOf}
 use Rattle.core_world.specs.Ties.{AreFlying, AreLives, AreLogged, AreMarked, AreRescues, AreTied, IsMarkedAs, IsRescueOf, IsShown, expiry_at, phase_of}
 use Rattle.core_recoveries.proofs.Handing.{handed_back}
@@ -91,7 +93,7 @@ ending one of_dead nothing ends s w journal by recovery r t g m has = record {
     through = subst (λ o. IsTrue (is_recovery (is_through s.core) o)) has m.can.can.ended
 
     rescue : IsRescueOf by recovery w.rescue
-    rescue = ⊎_elim (λ q. q) (λ z. absurd (not_stuck s.core recovery done (s.core.servers by).failed z)) (t.tied.rescues.under_way by recovery who has)
+    rescue = ⊎_elim (λ q. q) (λ z. absurd (not_stuck s.core recovery done by s.core.flights (s.core.servers by).failed z)) ((t.tied.rescues (not-true s.core.over m.can.going)).under_way by recovery who has)
 
 -- ---- the ties, from a world with fewer late writes in flight, where all is found in place
 
@@ -157,7 +159,7 @@ module _ (s : RunMoment) (w : World) (journal : ℕ → Journal) (by : ℕ) (rec
       is_by = at_put (λ (z : Server). z.recovery ≡ Some y → b ≡ by) (rid c.servers by d) d (recovered (c.servers d)) b (λ i. absurd (before.0 i))
           (λ n. at_put (λ (z : Server). z.recovery ≡ Some y → b ≡ by) c.servers by (idle c.servers by d) b (λ i f. i) (λ o f. q.alone b y before.1 f)) e
 
-  rescues : AreRescues servers_then finished
+  rescues : AreRescues servers_then c.flights finished
   rescues = record { under_way = λ b y works e. absurd (none_works b y works e); known = λ y e. absurd (none-some y e) }
 
   readings : AreReadings c.setting.segments servers_then finished
@@ -215,7 +217,7 @@ module _ (s : RunMoment) (w : World) (journal : ℕ → Journal) (by : ℕ) (rec
       marked = marked;
       flying = λ e. flying_on found_all rescue g can c.setting.segments c.now c.flights t.tied.lives.now (λ i f j. x.shed.early i f j) (λ i f j. x.shed_bytes.early i f j) (flying (t.tied.flying e));
       disk = λ i out. one_disk_good found_all g (Finish rescue) can i ∙ t.tied.disk i out;
-      rescues = rescues;
+      rescues = λ e. rescues;
       logged = logged;
     }
 
@@ -261,18 +263,22 @@ module _ (s : RunMoment) (w : World) (journal : ℕ → Journal) (by : ℕ) (rec
   good : Good found_all_now
   good = good_run w (x.events ++ y.events) found_all_now to_found g
 
+  all_quiet : (segments : ℕ) → AllQuiet segments w ((x.events ++ y.events) ++ Finish (rescue_of dead looker y.told) ∷ [])
+  all_quiet segments = quiet_both segments w found_all_now (x.events ++ y.events) (Finish (rescue_of dead looker y.told) ∷ []) to_found
+      (quiet_both segments w (rescued_by fewer (rescue_of dead looker q.rescue.r.told)) x.events y.events shed_run (x.quiet segments) (y.quiet segments)) (tt, tt)
+
   pub finish_leads : (s.core.servers by).recovery ≡ Some recovery → IsAtRest (slots_of s.disk dead) (sector_log w dead) →
-      LeadsWith w (next s (core_events.Finish by) Nothing) (Recovered dead (w.durable dead))
+      LeadsWith w (next s (core_events.Finish by) Nothing) journal (Recovered dead (w.durable dead))
   finish_leads has rest = record {
     leads = record {
       events = (x.events ++ y.events) ++ Finish (rescue_of dead looker y.told) ∷ [];
       world = after found_all_now (Finish (rescue_of dead looker y.told));
       run = joined w found_all_now (after found_all_now (Finish (rescue_of dead looker y.told))) (x.events ++ y.events) (Finish (rescue_of dead looker y.told) ∷ []) to_found (goes can stays);
-      journal = journal;
       is = subst (λ o. IsWorldOf (record (next s (core_events.Finish by) Nothing) { core = finished_from s.core by o }) (after found_all_now (Finish (rescue_of dead looker y.told))) journal) (sym has)
           (ends_on s w journal by recovery r t q x looker y.told good can rest);
     };
     story = record { servers = refl; opening = refl; logged = refl; first = refl; home = refl; history = refl };
+    quiet = all_quiet (next s (core_events.Finish by) Nothing).core.setting.segments;
   }
 
 pub finishes : OneRecoveryAtMost → RecoveriesAreOfTheDead → OffHasNothing → RecoveriesEndDone → FinishesLeadOn

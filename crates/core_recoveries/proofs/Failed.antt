@@ -3,6 +3,7 @@ use Rattle.std.proofs.Common.{◌≡◌, ◌⊎◌, ℕ, ◌==◌, Bool, true, f
 use Rattle.std.proofs.lemmas.Bool.{false≢true}
 use Rattle.frang_base.specs.Functions.{put}
 use Rattle.frang_base.proofs.Basics.{at_put}
+use Rattle.core_definitions.specs.Flights.{Flights}
 use Rattle.core_definitions.specs.LineEffects.{failed_by}
 use Rattle.core_definitions.specs.LineGuards.{is_server}
 use Rattle.core_definitions.specs.Recoveries.{Recovery}
@@ -56,9 +57,9 @@ module _ (servers : ℕ → Server) (a : ℕ) (w : World) where
       (λ n e up. at_put (λ y. y ≡ false) w.sick a true b (λ i. absurd (n i)) (λ m. t.well b e up))
 
   -- recoveries are as they were
-  pub broken_rescues : AreRescues servers w → AreRescues servers_broken w
-  broken_rescues t = record {
-    under_way = λ b x. at_put (λ (y : Server). IsTrue ((is_server b && is_up y.phase) || b == host_party) → y.recovery ≡ Some x → IsRescueOf b x w.rescue ⊎ IsStuck y.failed x) servers a
+  pub broken_rescues : (flights : Flights) → AreRescues servers flights w → AreRescues servers_broken flights w
+  broken_rescues flights t = record {
+    under_way = λ b x. at_put (λ (y : Server). IsTrue ((is_server b && is_up y.phase) || b == host_party) → y.recovery ≡ Some x → IsRescueOf b x w.rescue ⊎ IsStuck b flights y.failed x) servers a
         (failed_by (servers a)) b
         (λ i works e. ⊎_elim (λ q. inl q) (λ z. inr (record {
           has_failed = or_left (servers a).failed (is_in_mount (servers a).phase) z.has_failed;
@@ -66,14 +67,15 @@ module _ (servers : ℕ → Server) (a : ℕ) (w : World) where
           block = z.block;
           looked = z.looked;
           unwritten = z.unwritten;
+          unsent = z.unsent;
         })) (before b x i works e))
         (λ n. t.under_way b x);
     known = λ q e. let k = t.known q e in (k.0, broken_recovery q.by ∙ k.1, k.2);
   }
     where
       before : (b : ℕ) (x : Recovery) → b ≡ a → IsTrue ((is_server b && is_up (servers a).phase) || b == host_party) → (servers a).recovery ≡ Some x →
-          IsRescueOf b x w.rescue ⊎ IsStuck (servers a).failed x
-      before b x i works e = subst (λ n. IsRescueOf b x w.rescue ⊎ IsStuck (servers n).failed x) i
+          IsRescueOf b x w.rescue ⊎ IsStuck b flights (servers a).failed x
+      before b x i works e = subst (λ n. IsRescueOf b x w.rescue ⊎ IsStuck b flights (servers n).failed x) i
           (t.under_way b x (subst (λ n. IsTrue ((is_server b && is_up (servers n).phase) || b == host_party)) (sym i) works) (ap (λ n. (servers n).recovery) i ∙ e))
 
   pub broken_readings : (segments : ℕ) → AreReadings segments servers w → AreReadings segments servers_broken w

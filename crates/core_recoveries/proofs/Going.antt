@@ -9,6 +9,7 @@ use Rattle.sector_world.specs.Steps.{Event, Run}
 use Rattle.sector_world.specs.World.{World, Up, Rescue}
 use Rattle.core_world.specs.Events.{LeadsQuietly}
 use Rattle.core_world.specs.Journals.{AreReadings, Journal}
+use Rattle.core_world.specs.Quiet.{AllQuiet}
 use Rattle.core_world.specs.Steps.{IsWorldOf}
 use Rattle.core_world.specs.Ties.{AreRescues, AreTied}
 use Rattle.core_world.proofs.Same.{put_as}
@@ -30,7 +31,7 @@ module _ (s : RunMoment) (w : World) (journal : ℕ → Journal) (t : IsWorldOf 
   well : (b : ℕ) → (servers_then b).failed ≡ false → w.phase b ≡ Up → w.sick b ≡ false
   well b e = t.tied.lives.well b (sym (put_as (λ x. x.failed) s.core.servers by recovering refl b) ∙ e)
 
-  tied : AreRescues servers_then rescued → AreTied (record s.core { servers = servers_then }) s.disk rescued
+  tied : (s.core.over ≡ false → AreRescues servers_then s.core.flights rescued) → AreTied (record s.core { servers = servers_then }) s.disk rescued
   tied rescues = record {
     lives = lives_but servers_then s.core.servers but w s.core.now rescued refl refl refl well t.tied.lives;
     locks = t.tied.locks;
@@ -43,14 +44,13 @@ module _ (s : RunMoment) (w : World) (journal : ℕ → Journal) (t : IsWorldOf 
   }
 
   -- events of the world that go on with its recovery alone lead there
-  pub leads_on : (deeds : List Deed) (events : List Event) → Run w events rescued → AreRescues servers_then rescued → AreReadings s.core.setting.segments servers_then rescued →
-      LeadsQuietly w (record { core = record s.core { servers = servers_then }; disk = s.disk; record_ = deeds })
-  leads_on deeds events run rescues readings = record {
+  pub leads_on : (deeds : List Deed) (events : List Event) → AllQuiet s.core.setting.segments w events → Run w events rescued → (s.core.over ≡ false → AreRescues servers_then s.core.flights rescued) → AreReadings s.core.setting.segments servers_then rescued →
+      LeadsQuietly w (record { core = record s.core { servers = servers_then }; disk = s.disk; record_ = deeds }) journal
+  leads_on deeds events quiet run rescues readings = record {
     leads = record {
       events = events;
       world = rescued;
       run = run;
-      journal = journal;
       is = record {
         tied = tied rescues;
         journals = journals_but servers_then s.core.servers but rescued s.core.now s.core.flights s.disk journal t.journals;
@@ -58,4 +58,5 @@ module _ (s : RunMoment) (w : World) (journal : ℕ → Journal) (t : IsWorldOf 
       };
     };
     story = record { servers = refl; opening = refl; logged = refl; first = refl; home = refl; history = refl };
+    quiet = quiet;
   }

@@ -41,7 +41,7 @@ left_journal phase ring now flights disk log a j d k n other g = record {
     ends_at = g.counted.ends_at;
   };
   sent = g.sent;
-  records = record { given_up = g.records.given_up; placed = g.records.placed; old = g.records.old };
+  records = record { ends_at_last = g.records.ends_at_last; given_up = g.records.given_up; placed = g.records.placed; old = g.records.old };
 }
 
 pub left_log : (phase : life.Phase) (ring : Ring) (now : ℕ) (flights : Flights) (disk : Sectors) (log : SectorLog) (a : ℕ) (j : Journal) (d k n : ℕ) → a ≢ d →

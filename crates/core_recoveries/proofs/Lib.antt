@@ -18,9 +18,12 @@ pub mod Handing
 pub mod Passing
 pub mod Through
 pub mod Ending
+pub mod Reached
 pub mod RescueLanding
 pub mod RescueFailing
 pub mod Sealing
 pub mod Outside
 pub mod RoomLeft
 pub mod Stepping
+pub mod ByLogs
+pub mod SealJournals

@@ -19,6 +19,7 @@ use Rattle.core_definitions.specs.Servers.{Server, is_up}
 use Rattle.core_definitions.specs.Settings.{disk_logs}
 use Rattle.sector_world.specs.Steps.{stays}
 use Rattle.sector_world.specs.World.{World, Rescue}
+use Rattle.core_definitions.specs.Flights.{Flights}
 use Rattle.core_world.specs.Readings.{AreNamed, ReadsAs}
 use Rattle.core_world.specs.Ties.{AreRescues, IsRescueOf, IsStuck}
 use Rattle.core_recoveries.proofs.Going.{leads_on}
@@ -49,29 +50,29 @@ known_still servers by change same q k =
 rescue_loaded : (slot : ℕ) (block : Block) (by : ℕ) (old : Recovery) (rescue : Option Rescue) → IsRescueOf by old rescue → IsRescueOf by (slot_loaded slot block old) rescue
 rescue_loaded slot block by old rescue q = record { r = q.r; is = q.is; dead = q.dead; who = q.who; told = q.told }
 
-stuck_loaded : (slot : ℕ) (block : Block) (failed : Bool) (old : Recovery) → IsStuck failed old → IsStuck failed (slot_loaded slot block old)
-stuck_loaded slot block failed old z = record { has_failed = z.has_failed; sector = z.sector; block = z.block; looked = z.looked; unwritten = z.unwritten }
+stuck_loaded : (slot : ℕ) (block : Block) (by : ℕ) (flights : Flights) (failed : Bool) (old : Recovery) → IsStuck by flights failed old → IsStuck by flights failed (slot_loaded slot block old)
+stuck_loaded slot block by flights failed old z = record { has_failed = z.has_failed; sector = z.sector; block = z.block; looked = z.looked; unwritten = z.unwritten; unsent = z.unsent }
 
-loaded_rescues : (servers : ℕ → Server) (by slot : ℕ) (block : Block) (w : World) → AreRescues servers w →
-    AreRescues (put servers by (record (servers by) { recovery = option_map (slot_loaded slot block) (servers by).recovery })) w
-loaded_rescues servers by slot block w g = record {
-  under_way = λ b recovery. at_put (λ x. IsTrue ((is_server b && is_up x.phase) || b == host_party) → x.recovery ≡ Some recovery → IsRescueOf b recovery w.rescue ⊎ IsStuck x.failed recovery)
+loaded_rescues : (servers : ℕ → Server) (by slot : ℕ) (block : Block) (flights : Flights) (w : World) → AreRescues servers flights w →
+    AreRescues (put servers by (record (servers by) { recovery = option_map (slot_loaded slot block) (servers by).recovery })) flights w
+loaded_rescues servers by slot block flights w g = record {
+  under_way = λ b recovery. at_put (λ x. IsTrue ((is_server b && is_up x.phase) || b == host_party) → x.recovery ≡ Some recovery → IsRescueOf b recovery w.rescue ⊎ IsStuck b flights x.failed recovery)
       servers by (record (servers by) { recovery = option_map (slot_loaded slot block) (servers by).recovery }) b
       (λ i who e. here b i who recovery (from_map (slot_loaded slot block) (servers by).recovery recovery e)) (λ n. g.under_way b recovery);
   known = λ q e. known_still servers by (slot_loaded slot block) (λ x. refl) q (g.known q e);
 }
   where
     here : (b : ℕ) → b ≡ by → IsTrue ((is_server b && is_up (servers by).phase) || b == host_party) → (recovery : Recovery) → IsFrom (slot_loaded slot block) (servers by).recovery recovery →
-        IsRescueOf b recovery w.rescue ⊎ IsStuck (servers by).failed recovery
-    here b i who recovery f = subst (λ n. IsRescueOf n recovery w.rescue ⊎ IsStuck (servers by).failed recovery) (sym i)
-        (subst (λ x. IsRescueOf by x w.rescue ⊎ IsStuck (servers by).failed x) (sym f.is)
-        (⊎_elim (λ q. inl (rescue_loaded slot block by f.old w.rescue q)) (λ z. inr (stuck_loaded slot block (servers by).failed f.old z))
+        IsRescueOf b recovery w.rescue ⊎ IsStuck b flights (servers by).failed recovery
+    here b i who recovery f = subst (λ n. IsRescueOf n recovery w.rescue ⊎ IsStuck n flights (servers by).failed recovery) (sym i)
+        (subst (λ x. IsRescueOf by x w.rescue ⊎ IsStuck by flights (servers by).failed x) (sym f.is)
+        (⊎_elim (λ q. inl (rescue_loaded slot block by f.old w.rescue q)) (λ z. inr (stuck_loaded slot block by flights (servers by).failed f.old z))
         (g.under_way by f.old (subst (λ n. IsTrue ((is_server n && is_up (servers by).phase) || n == host_party)) i who) f.was)))
 
 pub loads : LoadsAreNone
 loads s w journal by slot block r t m readings =
-    leads_on s w journal t by (option_map (slot_loaded slot block) (s.core.servers by).recovery) w.rescue (next s (core_events.Load by slot) (Got block)).record_ [] stays
-    (loaded_rescues s.core.servers by slot block w t.tied.rescues) readings
+    leads_on s w journal t by (option_map (slot_loaded slot block) (s.core.servers by).recovery) w.rescue (next s (core_events.Load by slot) (Got block)).record_ [] tt stays
+    (λ e. loaded_rescues s.core.servers by slot block s.core.flights w (t.tied.rescues e)) readings
 
 -- what isn't all of a log is nothing that is read
 pub early_loads : EarlyLoadsAreRead

@@ -1,6 +1,6 @@
 -- A sector that is looked at is Look, where the recovery is the world's, and none where it can't end.
 use Rattle.std.proofs.Common.{◌≡◌, ◌⊎◌, ℕ, ◌<◌, ◌==◌, Bool, false, ◌&&◌, ◌||◌, IsTrue, [], ◌∷◌, Option, Some, None, refl, sym, ap, ◌∙◌, subst, inl, inr, ⊎_elim}
-use Rattle.std.proofs.lemmas.Bool.{false≢true}
+use Rattle.std.proofs.lemmas.Bool.{false≢true, not-true}
 use Rattle.std.proofs.lemmas.Option.{none-some, same_Some}
 use Rattle.std.specs.Option.{option_map}
 use Rattle.frang_base.specs.Functions.{put}
@@ -135,9 +135,9 @@ module _ (one : OneRecoveryAtMost) (s : RunMoment) (w : World) (journal : ℕ �
         (subst (λ o. IsTold (change recovery) sector o here) (sym (put_in recovery.looked sector (wanted_block (redos s.core.setting.logs recovery) sector block))) told_here))
         (λ n. subst (λ o. IsTold (change recovery) x o (q.r.told x)) (sym (put_elsewhere recovery.looked sector (wanted_block (redos s.core.setting.logs recovery) sector block) x n)) (q.told x))
 
-    rescues : AreRescues servers_then (record w { rescue = Some rescue })
+    rescues : AreRescues servers_then s.core.flights (record w { rescue = Some rescue })
     rescues = record {
-      under_way = λ b x. at_put (λ (y : Server). IsTrue ((is_server b && is_up y.phase) || b == host_party) → y.recovery ≡ Some x → IsRescueOf b x (Some rescue) ⊎ IsStuck y.failed x)
+      under_way = λ b x. at_put (λ (y : Server). IsTrue ((is_server b && is_up y.phase) || b == host_party) → y.recovery ≡ Some x → IsRescueOf b x (Some rescue) ⊎ IsStuck b s.core.flights y.failed x)
           s.core.servers by recovering b
           (λ i works e. inl (subst (λ y. IsRescueOf b y (Some rescue)) (sym (changed_is x e)) (record { r = rescue; is = refl; dead = q.dead; who = q.who ∙ sym i; told = told })))
           (λ n works e. alone b x n works e);
@@ -145,13 +145,13 @@ module _ (one : OneRecoveryAtMost) (s : RunMoment) (w : World) (journal : ℕ �
           (known_still s.core.servers by change (λ x. refl) rescue (recovery, ap (λ n. (s.core.servers n).recovery) q.who ∙ has, sym q.dead));
     }
 
-    pub looks_on : LeadsQuietly w (next s (core_events.Look by sector) (Got block))
-    looks_on = leads_on s w journal t by after_look (Some rescue) (next s (core_events.Look by sector) (Got block)).record_ (Look q.r sector ∷ []) (goes q.is stays) rescues (readings (Some rescue))
+    pub looks_on : LeadsQuietly w (next s (core_events.Look by sector) (Got block)) journal
+    looks_on = leads_on s w journal t by after_look (Some rescue) (next s (core_events.Look by sector) (Got block)).record_ (Look q.r sector ∷ []) (tt, tt) (goes q.is stays) (λ e. rescues) (readings (Some rescue))
 
   -- ---- one that can't end
 
-  module _ (z : IsStuck (s.core.servers by).failed recovery) where
-    stuck : IsStuck (s.core.servers by).failed (change recovery)
+  module _ (z : IsStuck by s.core.flights (s.core.servers by).failed recovery) where
+    stuck : IsStuck by s.core.flights (s.core.servers by).failed (change recovery)
     stuck = record {
       has_failed = z.has_failed;
       sector = z.sector;
@@ -159,23 +159,25 @@ module _ (one : OneRecoveryAtMost) (s : RunMoment) (w : World) (journal : ℕ �
       looked = put_elsewhere recovery.looked sector (wanted_block (redos s.core.setting.logs recovery) sector block) z.sector
           (λ e. none-some (Some z.block) (sym there.none ∙ ap (value_at recovery.looked) (sym e) ∙ z.looked)) ∙ z.looked;
       unwritten = z.unwritten;
+      unsent = z.unsent;
     }
 
-    stuck_rescues : AreRescues servers_then w
-    stuck_rescues = record {
-      under_way = λ b x. at_put (λ (y : Server). IsTrue ((is_server b && is_up y.phase) || b == host_party) → y.recovery ≡ Some x → IsRescueOf b x w.rescue ⊎ IsStuck y.failed x)
+    stuck_rescues : AreRescues s.core.servers s.core.flights w → AreRescues servers_then s.core.flights w
+    stuck_rescues old = record {
+      under_way = λ b x. at_put (λ (y : Server). IsTrue ((is_server b && is_up y.phase) || b == host_party) → y.recovery ≡ Some x → IsRescueOf b x w.rescue ⊎ IsStuck b s.core.flights y.failed x)
           s.core.servers by recovering b
-          (λ i works e. inr (subst (IsStuck (s.core.servers by).failed) (sym (changed_is x e)) stuck)) (λ n. t.tied.rescues.under_way b x);
-      known = λ p e. known_still s.core.servers by change (λ x. refl) p (t.tied.rescues.known p e);
+          (λ i works e. inr (subst (λ n. IsStuck n s.core.flights (s.core.servers by).failed x) (sym i) (subst (IsStuck by s.core.flights (s.core.servers by).failed) (sym (changed_is x e)) stuck)))
+          (λ n. old.under_way b x);
+      known = λ p e. known_still s.core.servers by change (λ x. refl) p (old.known p e);
     }
 
-    pub stays_stuck : LeadsQuietly w (next s (core_events.Look by sector) (Got block))
-    stays_stuck = leads_on s w journal t by after_look w.rescue (next s (core_events.Look by sector) (Got block)).record_ [] stays stuck_rescues (readings w.rescue)
+    pub stays_stuck : LeadsQuietly w (next s (core_events.Look by sector) (Got block)) journal
+    stays_stuck = leads_on s w journal t by after_look w.rescue (next s (core_events.Look by sector) (Got block)).record_ [] tt stays (λ e. stuck_rescues (t.tied.rescues e)) (readings w.rescue)
 
 pub looks : OneRecoveryAtMost → LooksAreEvents
 looks one s w journal by sector block r t g m =
     ⊎_elim (looks_on one s w journal by sector block r t g m x.recovery x.is x.test) (stays_stuck one s w journal by sector block r t g m x.recovery x.is x.test)
-    (t.tied.rescues.under_way by x.recovery m.can.can.who x.is)
+    ((t.tied.rescues (not-true s.core.over m.can.going)).under_way by x.recovery m.can.can.who x.is)
   where
     x : IsRecovering (wants_look s.core sector) (s.core.servers by).recovery
     x = recovering_is (wants_look s.core sector) (s.core.servers by).recovery m.can.can.wanted

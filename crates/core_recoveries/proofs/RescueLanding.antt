@@ -3,11 +3,10 @@ use Rattle.std.proofs.Common.{◌≡◌, ◌⊎◌, ℕ, ◌<◌, ◌≤◌, ◌
 use Rattle.std.proofs.lemmas.Bool.{cases_eq, cases_lt, eq-eqb, false≢true, ne_eqb, not-true}
 use Rattle.std.proofs.lemmas.Option.{none-some, same_Some}
 use Rattle.std.proofs.lemmas.List.{get_or_past}
-use Rattle.std.specs.List.{Contains}
 use Rattle.std.specs.Option.{option_map}
 use Rattle.frang_base.specs.Functions.{put}
 use Rattle.frang_base.specs.declared.lock.Mode.TheVariants.{Sole}
-use Rattle.frang_base.proofs.Basics.{at_put, at_put2, put_same}
+use Rattle.frang_base.proofs.Basics.{at_put, at_put2}
 use Rattle.frang_outside.specs.Disk.{written}
 use Rattle.sector_bytes.specs.Blocks.{Block, version_of}
 use Rattle.sector_bytes.specs.Replays.{redo_all}
@@ -22,7 +21,7 @@ use Rattle.core_definitions.specs.Flights as core
 use Rattle.core_definitions.specs.Flights.{Flights}
 use Rattle.core_definitions.specs.LineGuards.{is_server}
 use Rattle.core_definitions.specs.Logs.{SlotsRead, is_read, log_sector, records_of}
-use Rattle.core_definitions.specs.Recoveries.{Recovery, is_written, named_sectors, redos}
+use Rattle.core_definitions.specs.Recoveries.{Recovery, is_written, redos}
 use Rattle.core_definitions.specs.Runs.{State as RunMoment, next}
 use Rattle.core_definitions.specs.Scripts.{host_party}
 use Rattle.core_definitions.specs.Servers.{Server, is_dead, is_up}
@@ -40,34 +39,35 @@ use Rattle.core_laws.specs.Laws.{SectorsStandOnce}
 use Rattle.core_laws.specs.Leases.{LeasesEnd}
 use Rattle.core_laws.specs.Orders.{AreRecoveriesInOrder}
 use Rattle.sector_world.specs.Claims.{IsOrdered, or_else}
-use Rattle.sector_world.specs.Guards.{CanLand, NoneNames, to_replay}
+use Rattle.sector_world.specs.Guards.{CanLand, to_replay}
+use Rattle.sector_world.specs.Histories.{Named}
 use Rattle.sector_world.specs.Kinds.{Good}
-use Rattle.sector_world.specs.Logged.{AbsentUnlessUp, FlightOk, ToldOk}
+use Rattle.sector_world.specs.Logged.{AbsentUnlessUp, FlightOk}
 use Rattle.sector_world.specs.Steps.{after, landed, rescue_landed, stays, goes}
 use Rattle.sector_world.specs.Steps.Event.{Land}
-use Rattle.sector_world.specs.World.{World, Phase, Off, Up, Dead, Slot, Absent, Wanted, InPlace, Told, Flight, ByteFlight, Rescue, block_at, cover, has_version}
+use Rattle.sector_world.specs.World.{World, Phase, Off, Up, Dead, Slot, Absent, InPlace, Told, Flight, ByteFlight, Rescue, block_at, cover, has_version}
 use Rattle.sector_world.proofs.Every.{good_step}
-use Rattle.sector_world.proofs.Finishing.{none_replay}
 use Rattle.sector_world.proofs.Landing.{other_replay}
 use Rattle.sector_world.proofs.OneDisk.{one_disk_good, orderly_good}
 use Rattle.core_world.specs.Events.{HostsAreOff, LeadsQuietly}
 use Rattle.core_world.specs.Journals.{AreJournals, AreReadings, Journal, sector_log}
 use Rattle.core_world.specs.Readings.{AreNamed, ReadsAs}
 use Rattle.core_world.specs.Steps.{IsReached, IsWorldOf}
-use Rattle.core_world.specs.Ties.{AreFlying, AreRescues, AreTied, IsCachedAs, IsMarkedAs, IsRescueOf, IsShown, IsStuck, IsTold, IsToldOnce, is_log_sector, is_working}
-use Rattle.core_world.proofs.Same.{put_as}
+use Rattle.core_world.specs.Ties.{AreFlying, AreRescues, AreTied, IsCachedAs, IsFlying, IsMarkedAs, IsRescueOf, IsShown, IsStuck, IsTold, IsToldOnce, is_log_sector, is_working}
+use Rattle.core_world.proofs.Same.{put_as, rescues_on}
 use Rattle.core_writes.proofs.Arriving.{dead_since}
 use Rattle.core_writes.proofs.Going.{flying_on, put_none}
 use Rattle.core_writes.proofs.Journaling.{AreFewer, landed_log}
 use Rattle.core_writes.proofs.Landing.{arriving_there, byte_stamp_there, disk_same, once_there, shown_there}
-use Rattle.core_writes.proofs.Lists.{from_without, gone_at}
+use Rattle.core_writes.proofs.Lists.{at_sector, fewer_those, from_without, gone_at}
 use Rattle.core_writes.proofs.LogPlaces.{at_log}
 use Rattle.core_writes.proofs.MapLists.{value_among}
+use Rattle.core_writes.proofs.Owned.{Own, OwnFor, own_behalf}
 use Rattle.core_recoveries.proofs.Beginning.{dead_phase, works_alive}
 use Rattle.core_recoveries.proofs.But.{IsBut, cached_but, journals_but, lives_but, logged_but, marked_but, put_but, same_but}
-use Rattle.core_recoveries.proofs.Found.{plain_named}
 use Rattle.core_recoveries.proofs.Loading.{IsFrom, from_map, known_still}
-use Rattle.core_recoveries.specs.Arrivals.{RescuesArrive, WellRescuesAreOfWorlds}
+use Rattle.core_recoveries.proofs.Reached.{named_reached}
+use Rattle.core_recoveries.specs.Arrivals.{RescuesArrive, RescuesAreOfWorlds}
 
 pub dead_slot : (p : Phase) (slot : Slot) → p ≡ Dead → AbsentUnlessUp p slot → slot ≡ Absent
 dead_slot Off slot e h = h
@@ -176,29 +176,24 @@ module _ (hosts : HostsAreOff) (ends : LeasesEnd) (once : SectorsStandOnce) (hol
 
   -- where no call of its server failed it is the world's
   pub well_going : (s.core.servers a).failed ≡ false → IsTrue (is_working s.core.servers a) → (x : Recovery) → (s.core.servers a).recovery ≡ Some x → IsRescueOf a x w.rescue
-  well_going well works x has = ⊎_elim (λ q. q) (λ z. absurd (false≢true (sym well ∙ z.has_failed))) (t.tied.rescues.under_way a x works has)
+  well_going well works x has = ⊎_elim (λ q. q) (λ z. absurd (false≢true (sym well ∙ z.has_failed))) ((t.tied.rescues (not-true s.core.over going)).under_way a x works has)
 
-  -- and then the sector has a version
-  pub well_versioned : IsTrue (is_working s.core.servers a) → ((x : Recovery) → (s.core.servers a).recovery ≡ Some x → IsRescueOf a x w.rescue) → has_version w sector ≡ true
-  well_versioned works world = ⊎_elim (λ rec. by rec.recovery (owed works rec.recovery rec.is) (world rec.recovery rec.is))
-      (λ fell. absurd (works_alive s w r hosts t.tied.lives.phase a works (t.tied.lives.phase a ∙ dead_phase (s.core.servers a).phase fell))) holder.since
+  -- it is on another's behalf, so on the side of bytes the world has nothing of it
+  other_now : flight.behalf ≡ flight.server → ⊥
+  other_now = let x = gone_at s.core.flights ticket flight at in
+      subst (λ p. OwnFor p flight) place (subst Own x.2 (own_behalf (setting_of r.script r.segments r.number) r.disk s r.run x.0 x.1))
+
+  -- so its sector has a version
+  pub versioned : has_version w sector ≡ true
+  versioned = go (has_version w sector) refl
     where
-      same_less : (x y : ℕ) → x < y → y ≡ x → ⊥
-      same_less x y h e = absurd (omega (arith, h, e))
+      own : IsFlying s.core.flights sector (cover w sector) a a flight.stamp flight.block → ⊥
+      own x = other_now (sym (ap (λ (f : core.Flight). f.behalf)
+          (at_sector s.core.flights ticket flight x.one (once_there ends once s r ticket flight at early) at (contains_in s.core.flights x.one x.among) x.sector)) ∙ x.behalf_is)
 
-      by : (x : Recovery) → IsOwed x → IsRescueOf a x w.rescue → has_version w sector ≡ true
-      by x o q = go (has_version w sector) refl
-        where
-          wanted : q.r.told sector ≡ Wanted flight.block
-          wanted = subst (λ b. IsToldOnce b flight.block (q.r.told sector)) o.unwritten (subst (λ look. IsTold x sector look (q.r.told sector)) o.looked (q.told sector))
-
-          rising : (flight.block ≡ redo_all (to_replay w q.r.dead) sector (w.disk sector)) × (version_of (w.disk sector) < version_of (redo_all (to_replay w q.r.dead) sector (w.disk sector)))
-          rising = subst (λ told. ToldOk told (w.disk sector) (redo_all (to_replay w q.r.dead) sector (w.disk sector))) wanted ((g.logged.rescued q.r q.is).told sector)
-
-          go : (b : Bool) → has_version w sector ≡ b → has_version w sector ≡ true
-          go true e = e
-          go false e = absurd (same_less (version_of (w.disk sector)) (version_of (redo_all (to_replay w q.r.dead) sector (w.disk sector))) rising.1
-              (ap version_of (none_replay (to_replay w q.r.dead) sector (w.disk sector) (plain_named w g sector e q.r.dead))))
+      go : (b : Bool) → has_version w sector ≡ b → has_version w sector ≡ true
+      go true e = e
+      go false e = absurd (own (flying.bytes sector (record { by = a; stamp = flight.stamp; block = flight.block }) (subst (λ b. IsShown b flight (w.flight sector) (w.byte_flight sector)) e shown)))
 
   -- ---- in the world
 
@@ -274,10 +269,32 @@ module _ (hosts : HostsAreOff) (ends : LeasesEnd) (once : SectorsStandOnce) (hol
     rescue_own : (q : Rescue) → q.dead ≡ d → rescue_landed d sector (Some q) ≡ Some (in_place_at q)
     rescue_own q e = ap (λ b. Some (record { dead = q.dead; by = q.by; told = if b then put q.told sector InPlace else q.told })) (eq-eqb q.dead d e)
 
+    -- a replay that changed nothing of the sector as it was changes nothing of what came: it would have raised it to the write's version, which a record names
+    pub still_new : (n x : ℕ) → redo_all (to_replay w n) x (w.disk x) ≡ w.disk x → redo_all (to_replay w n) x (put w.disk sector flight.block x) ≡ put w.disk sector flight.block x
+    still_new n x same = at_put (λ y. redo_all (to_replay w n) x y ≡ y) w.disk sector flight.block x (λ e. subst (λ i. redo_all (to_replay w n) i flight.block ≡ flight.block) (sym e) (go e (cases_eq n d))) (λ m. same)
+      where
+        below_above : (p q : ℕ) → p < q → q ≤ p → ⊥
+        below_above p q h i = absurd (omega (arith, h, i))
+
+        go : x ≡ sector → (n ≡ d) ⊎ (n ≡ d → ⊥) → redo_all (to_replay w n) sector flight.block ≡ flight.block
+        go e (inl i) = absurd (below_above (version_of (w.disk sector)) (version_of flight.block) ok.higher
+            (subst (λ b. version_of flight.block ≤ version_of b) (subst (λ k. redo_all (to_replay w n) k (w.disk k) ≡ w.disk k) e same)
+            (named_reached (to_replay w n) sector (version_of flight.block) (w.disk sector) (subst (λ k. Named (to_replay w k) sector (version_of flight.block)) (sym i) ok.named))))
+        go e (inr i) = other_replay w g.logged n sector flight.block (λ sole. i (sym (g.logged.apart d n (cover w sector) ok.sole (λ none. none-some Sole (sym none ∙ sole))))) ok.place
+
     -- ---- the ties
 
-    module _ (later : ℕ → Server) (same : IsBut later s.core.servers) (well : (b : ℕ) → (later b).failed ≡ (s.core.servers b).failed) (rescues : AreRescues later u) (before : (b : ℕ) (x : Recovery) → (later b).recovery ≡ Some x → IsBefore s.core.servers b x)
-        (world : IsTrue (is_working s.core.servers a) → (x : Recovery) → (s.core.servers a).recovery ≡ Some x → IsRescueOf a x w.rescue) where
+    abbrev rest : Flights
+    rest = without s.core.flights ticket
+
+    pub known_now : AreRescues s.core.servers s.core.flights w
+    known_now = t.tied.rescues (not-true s.core.over going)
+
+    pub fewer_known : AreRescues s.core.servers rest w
+    fewer_known = rescues_on s.core.servers rest s.core.flights w (fewer_those s.core.flights ticket) known_now
+
+    module _ (later : ℕ → Server) (same : IsBut later s.core.servers) (well : (b : ℕ) → (later b).failed ≡ (s.core.servers b).failed) (rescues : AreRescues later rest u)
+        (before : (b : ℕ) (x : Recovery) → (later b).recovery ≡ Some x → IsBefore s.core.servers b x) where
       fewer : AreFewer (without s.core.flights ticket) s.core.flights
       fewer one number i of = in_contains s.core.flights one (from_without s.core.flights ticket one (contains_in (without s.core.flights ticket) one i))
 
@@ -286,26 +303,6 @@ module _ (hosts : HostsAreOff) (ends : LeasesEnd) (once : SectorsStandOnce) (hol
           (λ b who. landed_log s.core.now s.core.flights (without s.core.flights ticket) s.disk (written s.disk sector flight.block) (sector_log w b) (λ x. version_of (put w.disk sector flight.block x)) b
           (journal b) fewer
           (λ slot below. disk_same s.disk sector flight.block high b who slot below) rises (s.core.servers b).phase (s.core.servers b).ring (t.journals b who))
-
-      -- a replay of the log changes nothing of it then
-      whole : (b : ℕ) (x : Recovery) → IsTrue (is_working s.core.servers b) → (s.core.servers b).recovery ≡ Some x → redo_all (to_replay w x.dead) sector flight.block ≡ flight.block
-      whole b x works has = go (cases_eq x.dead d)
-        where
-          told_same : (told : Told) (old new : Block) → told ≡ InPlace → ToldOk told old new → new ≡ old
-          told_same told old new e k = subst (λ y. ToldOk y old new) e k
-
-          own : IsRescueOf a x w.rescue → x.dead ≡ d → redo_all (to_replay w x.dead) sector flight.block ≡ flight.block
-          own q e = subst (λ y. redo_all (to_replay w x.dead) sector y ≡ y) (put_same w.disk sector flight.block)
-              (subst (λ n. redo_all (to_replay w n) sector (put w.disk sector flight.block sector) ≡ put w.disk sector flight.block sector) q.dead
-              (told_same (put q.r.told sector InPlace sector) (put w.disk sector flight.block sector) (redo_all (to_replay w q.r.dead) sector (put w.disk sector flight.block sector))
-              (put_same q.r.told sector InPlace)
-              ((good.logged.rescued (in_place_at q.r) (ap (rescue_landed d sector) q.is ∙ rescue_own q.r (q.dead ∙ e))).told sector)))
-
-          go : (x.dead ≡ d) ⊎ (x.dead ≡ d → ⊥) → redo_all (to_replay w x.dead) sector flight.block ≡ flight.block
-          go (inl e) = let is : b ≡ a = alone b x works has e in
-              own (world (subst (λ n. IsTrue (is_working s.core.servers n)) is works) x (ap (λ n. (s.core.servers n).recovery) (sym is) ∙ has)) e
-          go (inr n) = other_replay w g.logged x.dead sector flight.block
-              (λ sole. n (sym (g.logged.apart d x.dead (cover w sector) ok.sole (λ none. none-some Sole (sym none ∙ sole))))) ok.place
 
       abbrev AreRead : ℕ → SlotsRead → Type 0
       AreRead n slots = ReadsAs u n (records_of disk_logs slots) × AreNamed s.core.setting.segments u n (records_of disk_logs slots)
@@ -325,10 +322,7 @@ module _ (hosts : HostsAreOff) (ends : LeasesEnd) (once : SectorsStandOnce) (hol
           now : AreRead p.old.dead p.old.slots
           now = (
             (λ i y le. old.0 i y (le_le (version_of (w.disk i)) (version_of (put w.disk sector flight.block i)) (version_of y) (rises i) le)),
-            (λ i. at_put
-                (λ y. NoneNames (to_replay w p.old.dead) i ⊎ (Contains (named_sectors s.core.setting.segments (redos disk_logs p.old)) i ⊎ (redo_all (to_replay w p.old.dead) i y ≡ y)))
-                w.disk sector flight.block i
-                (λ e. inr (inr (subst (λ n. redo_all (to_replay w p.old.dead) n flight.block ≡ flight.block) (sym e) (whole b p.old worked p.was)))) (λ n. old.1 i)),
+            (λ i. ⊎_elim (λ m. inl m) (λ m. inr (⊎_elim (λ k. inl k) (λ k. inr (still_new p.old.dead i k)) m)) (old.1 i)),
           )
 
       abbrev core_then : Core
@@ -344,17 +338,16 @@ module _ (hosts : HostsAreOff) (ends : LeasesEnd) (once : SectorsStandOnce) (hol
             (marked_but later s.core.servers same w t.tied.marked b x);
         flying = λ e. flies;
         disk = on_disk;
-        rescues = rescues;
+        rescues = λ e. rescues;
         logged = logged_but later s.core.servers same w t.tied.logged;
       }
 
-      pub lands_so : (next : RunMoment) → core_then ≡ next.core → written s.disk sector flight.block ≡ next.disk → LeadsQuietly w next
+      pub lands_so : (next : RunMoment) → core_then ≡ next.core → written s.disk sector flight.block ≡ next.disk → LeadsQuietly w next journal
       lands_so next core_is disk_is = record {
         leads = record {
           events = Land sector f ∷ [];
           world = u;
           run = goes can_land stays;
-          journal = journal;
           is = record {
             tied = subst (λ x. AreTied next.core x u) disk_is (subst (λ c. AreTied c (written s.disk sector flight.block) u) core_is tied);
             journals = subst (λ x. AreJournals next.core.servers next.core.now next.core.flights x u journal) disk_is
@@ -363,6 +356,7 @@ module _ (hosts : HostsAreOff) (ends : LeasesEnd) (once : SectorsStandOnce) (hol
           };
         };
         story = record { servers = refl; opening = refl; logged = refl; first = refl; home = refl; history = refl };
+        quiet = (tt, tt);
       }
 
     -- ---- recoveries then
@@ -387,11 +381,11 @@ module _ (hosts : HostsAreOff) (ends : LeasesEnd) (once : SectorsStandOnce) (hol
             (same_Some (record { dead = q.dead; by = q.by; told = if nat_eq q.dead d then put q.told sector InPlace else q.told }) p j) (known q i)
 
     -- its server is dead since
-    gone_rescues : w.phase a ≡ Dead → AreRescues s.core.servers u
+    gone_rescues : w.phase a ≡ Dead → AreRescues s.core.servers rest u
     gone_rescues fell = record {
       under_way = λ b x works e. ⊎_elim (λ q. inl (other_rescue b x (λ i. works_alive s w r hosts t.tied.lives.phase b works (ap w.phase i ∙ fell)) q)) (λ z. inr z)
-          (t.tied.rescues.under_way b x works e);
-      known = known_landed s.core.servers t.tied.rescues.known;
+          (fewer_known.under_way b x works e);
+      known = known_landed s.core.servers known_now.known;
     }
 
     -- or it goes on, or doesn't die
@@ -433,18 +427,35 @@ module _ (hosts : HostsAreOff) (ends : LeasesEnd) (once : SectorsStandOnce) (hol
           (λ n. told_other old i (value_at old.looked i) (q.r.told i) n (q.told i));
     }
 
-    later_rescues : (IsTrue (is_working s.core.servers a) → (x : Recovery) → (s.core.servers a).recovery ≡ Some x → IsRescueOf a x w.rescue) → AreRescues later_servers u
-    later_rescues world = record {
-      under_way = λ b x. at_put (λ (y : Server). IsTrue ((is_server b && is_up y.phase) || b == host_party) → y.recovery ≡ Some x → IsRescueOf b x u.rescue ⊎ IsStuck y.failed x)
+    -- one that can't end can't still: no write of the sector that it names was in flight
+    own_stuck : (old : Recovery) → IsStuck a s.core.flights (s.core.servers a).failed old → IsStuck a rest (s.core.servers a).failed (acknowledged_for sector old)
+    own_stuck old z = record {
+      has_failed = z.has_failed;
+      sector = z.sector;
+      block = z.block;
+      looked = z.looked;
+      unwritten = ap (λ b. if b then true else is_written old z.sector) (ne_eqb sector z.sector apart) ∙ z.unwritten;
+      unsent = λ one i. z.unsent one (in_contains s.core.flights one (from_without s.core.flights ticket one (contains_in rest one i)));
+    }
+      where
+        apart : sector ≡ z.sector → ⊥
+        apart e = let x = gone_at s.core.flights ticket flight at in
+            z.unsent x.0 (in_contains s.core.flights x.0 x.1) (ap (λ (f : core.Flight). f.server) x.2) (ap (λ (f : core.Flight). f.sector) x.2 ∙ e)
+
+    later_rescues : AreRescues later_servers rest u
+    later_rescues = record {
+      under_way = λ b x. at_put (λ (y : Server). IsTrue ((is_server b && is_up y.phase) || b == host_party) → y.recovery ≡ Some x → IsRescueOf b x u.rescue ⊎ IsStuck b rest y.failed x)
           s.core.servers a acknowledged_there b
-          (λ i works e. inl (here b x i works (from_map (acknowledged_for sector) (s.core.servers a).recovery x e)))
-          (λ n works e. ⊎_elim (λ q. inl (other_rescue b x n q)) (λ z. inr z) (t.tied.rescues.under_way b x works e));
-      known = known_landed later_servers (λ q e. known_still s.core.servers a (acknowledged_for sector) (λ x. refl) q (t.tied.rescues.known q e));
+          (λ i works e. here b x i works (from_map (acknowledged_for sector) (s.core.servers a).recovery x e))
+          (λ n works e. ⊎_elim (λ q. inl (other_rescue b x n q)) (λ z. inr z) (fewer_known.under_way b x works e));
+      known = known_landed later_servers (λ q e. known_still s.core.servers a (acknowledged_for sector) (λ x. refl) q (known_now.known q e));
     }
       where
         here : (b : ℕ) (x : Recovery) → b ≡ a → IsTrue ((is_server b && is_up (s.core.servers a).phase) || b == host_party) → IsFrom (acknowledged_for sector) (s.core.servers a).recovery x →
-            IsRescueOf b x u.rescue
-        here b x i works p = subst (λ n. IsRescueOf n x u.rescue) (sym i) (subst (λ y. IsRescueOf a y u.rescue) (sym p.is) (own_rescue p.old (owed worked p.old p.was) (world worked p.old p.was)))
+            IsRescueOf b x u.rescue ⊎ IsStuck b rest (s.core.servers a).failed x
+        here b x i works p = subst (λ n. IsRescueOf n x u.rescue ⊎ IsStuck n rest (s.core.servers a).failed x) (sym i)
+            (subst (λ y. IsRescueOf a y u.rescue ⊎ IsStuck a rest (s.core.servers a).failed y) (sym p.is)
+            (⊎_elim (λ q. inl (own_rescue p.old (owed worked p.old p.was) q)) (λ z. inr (own_stuck p.old z)) (known_now.under_way a p.old worked p.was)))
           where
             worked : IsTrue (is_working s.core.servers a)
             worked = subst (λ n. IsTrue ((is_server n && is_up (s.core.servers a).phase) || n == host_party)) i works
@@ -452,10 +463,13 @@ module _ (hosts : HostsAreOff) (ends : LeasesEnd) (once : SectorsStandOnce) (hol
 -- ---- the event
 
 pub rescues_arrive : HostsAreOff → LeasesEnd → SectorsStandOnce → RescuesAreByHolders → WhoRecoversHolds → StaleAreLate → RescuesArrive
-rescues_arrive hosts ends once holders held stale s w journal ticket flight r t g at place out asked m = go flight.present refl
+rescues_arrive hosts ends once holders held stale s w journal ticket flight r t g at place out m = go flight.present refl
   where
     early : s.core.now ≤ flight.stamp
     early = subst (λ o. MayArrive s.core.now o Written) at m.hears
+
+    has : has_version w flight.sector ≡ true
+    has = versioned hosts ends once holders held s w journal ticket flight r t g m.can.going at place out early
 
     moment : RunMoment
     moment = next s (core_events.Arrive ticket) Written
@@ -470,23 +484,22 @@ rescues_arrive hosts ends once holders held stale s w journal ticket flight r t 
     disk_is : written s.disk flight.sector flight.block ≡ moment.disk
     disk_is = sym (ap (disk_from s.disk Written) at)
 
-    go : (b : Bool) → flight.present ≡ b → LeadsQuietly w moment
-    go true e = lands_so hosts ends once holders held s w journal ticket flight r t g m.can.going at place out early asked.versioned
-        (later_servers hosts ends once holders held s w journal ticket flight r t g m.can.going at place out early asked.versioned)
-        (later_same hosts ends once holders held s w journal ticket flight r t g m.can.going at place out early asked.versioned)
-        (later_failed hosts ends once holders held s w journal ticket flight r t g m.can.going at place out early asked.versioned)
-        (later_rescues hosts ends once holders held s w journal ticket flight r t g m.can.going at place out early asked.versioned asked.going)
-        (later_before hosts ends once holders held s w journal ticket flight r t g m.can.going at place out early asked.versioned) asked.going moment (core_by true e) disk_is
-    go false e = lands_so hosts ends once holders held s w journal ticket flight r t g m.can.going at place out early asked.versioned s.core.servers
+    go : (b : Bool) → flight.present ≡ b → LeadsQuietly w moment journal
+    go true e = lands_so hosts ends once holders held s w journal ticket flight r t g m.can.going at place out early has
+        (later_servers hosts ends once holders held s w journal ticket flight r t g m.can.going at place out early has)
+        (later_same hosts ends once holders held s w journal ticket flight r t g m.can.going at place out early has)
+        (later_failed hosts ends once holders held s w journal ticket flight r t g m.can.going at place out early has)
+        (later_rescues hosts ends once holders held s w journal ticket flight r t g m.can.going at place out early has)
+        (later_before hosts ends once holders held s w journal ticket flight r t g m.can.going at place out early has) moment (core_by true e) disk_is
+    go false e = lands_so hosts ends once holders held s w journal ticket flight r t g m.can.going at place out early has s.core.servers
         (same_but s.core.servers) (λ b. refl)
-        (gone_rescues hosts ends once holders held s w journal ticket flight r t g m.can.going at place out early asked.versioned (dead_since stale s w journal r t ticket flight at early e))
-        (λ b x has. record { old = x; was = has; dead = refl; slots = refl }) asked.going moment (core_by false e) disk_is
+        (gone_rescues hosts ends once holders held s w journal ticket flight r t g m.can.going at place out early has (dead_since stale s w journal r t ticket flight at early e))
+        (λ b x e. record { old = x; was = e; dead = refl; slots = refl }) moment (core_by false e) disk_is
 
-pub well_of_worlds : HostsAreOff → LeasesEnd → SectorsStandOnce → RescuesAreByHolders → WhoRecoversHolds → WellRescuesAreOfWorlds
-well_of_worlds hosts ends once holders held s w journal ticket flight r t g at place out m works well = record {
-  versioned = well_versioned hosts ends once holders held s w journal ticket flight r t g m.can.going at place out early works
-      (well_going hosts ends once holders held s w journal ticket flight r t g m.can.going at place out early well works);
-  going = well_going hosts ends once holders held s w journal ticket flight r t g m.can.going at place out early well;
+pub of_worlds : HostsAreOff → LeasesEnd → SectorsStandOnce → RescuesAreByHolders → WhoRecoversHolds → RescuesAreOfWorlds
+of_worlds hosts ends once holders held s w journal ticket flight r t g at place out m = record {
+  versioned = versioned hosts ends once holders held s w journal ticket flight r t g m.can.going at place out early;
+  going = λ works well. well_going hosts ends once holders held s w journal ticket flight r t g m.can.going at place out early well works;
 }
   where
     early : s.core.now ≤ flight.stamp

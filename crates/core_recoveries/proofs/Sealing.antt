@@ -15,6 +15,7 @@ use Rattle.core_definitions.specs.Effects.{disk_from, disk_with}
 use Rattle.core_definitions.specs.Events as core_events
 use Rattle.core_definitions.specs.Events.{PutFailed, Written}
 use Rattle.core_definitions.specs.Flights as core
+use Rattle.core_definitions.specs.Flights.{Flights}
 use Rattle.core_definitions.specs.LineEffects.{failed_by}
 use Rattle.core_definitions.specs.LineGuards.{is_server}
 use Rattle.core_definitions.specs.Logs.{is_read}
@@ -30,19 +31,21 @@ use Rattle.core_laws.proofs.Membership.{contains_in, in_contains}
 use Rattle.sector_world.specs.Steps.{Event, Run, after, stays, goes}
 use Rattle.sector_world.specs.Steps.Event.{Fail}
 use Rattle.sector_world.specs.World.{World, Up, Told, cover, has_version}
+use Rattle.core_world.specs.Beside.{NoneInLogs}
 use Rattle.core_world.specs.Events.{LeadsQuietly}
 use Rattle.core_world.specs.Journals.{AreJournals, AreReadings, Journal}
+use Rattle.core_world.specs.Quiet.{AllQuiet}
 use Rattle.core_world.specs.Readings.{AreNamed, ReadsAs}
 use Rattle.core_world.specs.Steps.{IsReached, IsWorldOf}
 use Rattle.core_world.specs.Ties.{AreFlying, AreRescues, AreTied, IsFlying, IsRescueOf, IsStuck, IsTold, IsToldOnce, is_log_sector}
-use Rattle.core_world.proofs.Same.{put_as}
-use Rattle.core_writes.proofs.Lists.{from_without, into_without}
+use Rattle.core_world.proofs.Same.{put_as, rescues_on}
+use Rattle.core_writes.proofs.Lists.{fewer_those, from_without, into_without}
 use Rattle.core_recoveries.proofs.But.{IsBut, cached_but, lives_but, logged_but, marked_but, put_but}
 use Rattle.core_recoveries.proofs.Failed.{broken_but, broken_readings, broken_rescues, broken_well, servers_broken}
 use Rattle.core_recoveries.proofs.Found.{replayed_no_log}
 use Rattle.core_recoveries.proofs.Loading.{IsFrom, from_map, known_still}
 use Rattle.core_recoveries.proofs.Through.{value_among}
-use Rattle.core_recoveries.specs.Seals.{NoneInLogs, SealsArrive, SealsFail}
+use Rattle.core_recoveries.specs.Seals.{SealsArrive, SealsFail}
 
 module _ (s : RunMoment) (w : World) (journal : ℕ → Journal) (ticket : ℕ) (flight : core.Flight) (r : IsReached s) (t : IsWorldOf s w journal) (going : IsTrue (not s.core.over))
     (at : value_at s.core.flights ticket ≡ Some flight) (log : is_log_sector s.core.setting.segments flight.sector ≡ true) (none : NoneInLogs s.core.setting.segments w) where
@@ -121,17 +124,23 @@ module _ (s : RunMoment) (w : World) (journal : ℕ → Journal) (ticket : ℕ) 
   well : (b : ℕ) → (later b).failed ≡ false → w.phase b ≡ Up → w.sick b ≡ false
   well b e = t.tied.lives.well b (sym (put_as (λ y. y.failed) s.core.servers a owner refl b) ∙ e)
 
-  rescues : AreRescues later w
-  rescues = record {
-    under_way = λ b x. at_put (λ (y : Server). IsTrue ((is_server b && is_up y.phase) || b == host_party) → y.recovery ≡ Some x → IsRescueOf b x w.rescue ⊎ IsStuck y.failed x) s.core.servers a owner b
-        (λ i works e. here b x i works (from_map (acknowledged_for sector) (s.core.servers a).recovery x e)) (λ n. t.tied.rescues.under_way b x);
-    known = λ q e. known_still s.core.servers a (acknowledged_for sector) (λ x. refl) q (t.tied.rescues.known q e);
+  abbrev rest : Flights
+  rest = without s.core.flights ticket
+
+  fewer : AreRescues s.core.servers s.core.flights w → AreRescues s.core.servers rest w
+  fewer = rescues_on s.core.servers rest s.core.flights w (fewer_those s.core.flights ticket)
+
+  rescues : AreRescues s.core.servers rest w → AreRescues later rest w
+  rescues old = record {
+    under_way = λ b x. at_put (λ (y : Server). IsTrue ((is_server b && is_up y.phase) || b == host_party) → y.recovery ≡ Some x → IsRescueOf b x w.rescue ⊎ IsStuck b rest y.failed x) s.core.servers a owner b
+        (λ i works e. here b x i works (from_map (acknowledged_for sector) (s.core.servers a).recovery x e)) (λ n. old.under_way b x);
+    known = λ q e. known_still s.core.servers a (acknowledged_for sector) (λ x. refl) q (old.known q e);
   }
     where
       here : (b : ℕ) (x : Recovery) → b ≡ a → IsTrue ((is_server b && is_up (s.core.servers a).phase) || b == host_party) → IsFrom (acknowledged_for sector) (s.core.servers a).recovery x →
-          IsRescueOf b x w.rescue ⊎ IsStuck (s.core.servers a).failed x
-      here b x i works p = subst (λ n. IsRescueOf n x w.rescue ⊎ IsStuck (s.core.servers a).failed x) (sym i)
-          (subst (λ y. IsRescueOf a y w.rescue ⊎ IsStuck (s.core.servers a).failed y) (sym p.is)
+          IsRescueOf b x w.rescue ⊎ IsStuck b rest (s.core.servers a).failed x
+      here b x i works p = subst (λ n. IsRescueOf n x w.rescue ⊎ IsStuck n rest (s.core.servers a).failed x) (sym i)
+          (subst (λ y. IsRescueOf a y w.rescue ⊎ IsStuck a rest (s.core.servers a).failed y) (sym p.is)
           (⊎_elim
           (λ q. inl (record {
             r = q.r;
@@ -146,8 +155,9 @@ module _ (s : RunMoment) (w : World) (journal : ℕ → Journal) (ticket : ℕ) 
             block = z.block;
             looked = z.looked;
             unwritten = unwritten_more p.old z.sector (looked_out a p.old z.sector (Some z.block) p.was z.looked) ∙ z.unwritten;
+            unsent = z.unsent;
           }))
-          (t.tied.rescues.under_way a p.old (subst (λ n. IsTrue ((is_server n && is_up (s.core.servers a).phase) || n == host_party)) i works) p.was)))
+          (old.under_way a p.old (subst (λ n. IsTrue ((is_server n && is_up (s.core.servers a).phase) || n == host_party)) i works) p.was)))
 
   readings : AreReadings segments later w
   readings b x = at_put
@@ -172,7 +182,7 @@ module _ (s : RunMoment) (w : World) (journal : ℕ → Journal) (ticket : ℕ) 
     marked = marked_but later s.core.servers but w t.tied.marked;
     flying = λ e. flies;
     disk = on_disk;
-    rescues = rescues;
+    rescues = λ e. rescues (fewer (t.tied.rescues e));
     logged = logged_but later s.core.servers but w t.tied.logged;
   }
 
@@ -185,7 +195,7 @@ module _ (s : RunMoment) (w : World) (journal : ℕ → Journal) (ticket : ℕ) 
     marked = t.tied.marked;
     flying = λ e. flies;
     disk = on_disk;
-    rescues = t.tied.rescues;
+    rescues = λ e. fewer (t.tied.rescues e);
     logged = t.tied.logged;
   }
 
@@ -209,7 +219,7 @@ module _ (s : RunMoment) (w : World) (journal : ℕ → Journal) (ticket : ℕ) 
       marked = marked_but servers_then s.core.servers broken w t.tied.marked;
       flying = λ e. flies;
       disk = disk_so;
-      rescues = broken_rescues s.core.servers a w t.tied.rescues;
+      rescues = λ e. broken_rescues s.core.servers a w rest (fewer (t.tied.rescues e));
       logged = logged_but servers_then s.core.servers broken w t.tied.logged;
     }
 
@@ -222,7 +232,7 @@ module _ (s : RunMoment) (w : World) (journal : ℕ → Journal) (ticket : ℕ) 
       marked = t.tied.marked;
       flying = λ e. absurd (false≢true (sym e));
       disk = disk_so;
-      rescues = t.tied.rescues;
+      rescues = λ e. absurd (false≢true (sym e));
       logged = t.tied.logged;
     }
 
@@ -233,15 +243,14 @@ module _ (s : RunMoment) (w : World) (journal : ℕ → Journal) (ticket : ℕ) 
 -- ---- the events
 
 -- by these events from one world to another
-leads_so : (w u : World) (events : List Event) (further : ℕ → Journal) (moment : RunMoment) (c : Core) (disk : Sectors) → Run w events u → u ≡ record w { sick = u.sick } → c ≡ moment.core →
+leads_so : (w u : World) (events : List Event) → ((segments : ℕ) → AllQuiet segments w events) → (further : ℕ → Journal) (moment : RunMoment) (c : Core) (disk : Sectors) → Run w events u → u ≡ record w { sick = u.sick } → c ≡ moment.core →
     disk ≡ moment.disk → AreTied c disk u →
-    AreReadings c.setting.segments c.servers u → AreJournals moment.core.servers moment.core.now moment.core.flights moment.disk w further → LeadsQuietly w moment
-leads_so w u events further moment c disk run same core_is disk_is tied readings journals = record {
+    AreReadings c.setting.segments c.servers u → AreJournals moment.core.servers moment.core.now moment.core.flights moment.disk w further → LeadsQuietly w moment further
+leads_so w u events quiet further moment c disk run same core_is disk_is tied readings journals = record {
   leads = record {
     events = events;
     world = u;
     run = run;
-    journal = further;
     is = record {
       tied = subst (λ x. AreTied moment.core x u) disk_is (subst (λ y. AreTied y disk u) core_is tied);
       journals = subst (λ y. AreJournals moment.core.servers moment.core.now moment.core.flights moment.disk y further) (sym same) journals;
@@ -256,6 +265,7 @@ leads_so w u events further moment c disk run same core_is disk_is tied readings
     home = ap (λ v. v.home) same;
     history = ap (λ v. v.history) same;
   };
+  quiet = quiet moment.core.setting.segments;
 }
 
 pub seals_arrive : SealsArrive
@@ -274,10 +284,10 @@ seals_arrive s w journal further ticket flight r t at place log none m js = go f
     disk_is : written s.disk flight.sector flight.block ≡ moment.disk
     disk_is = sym (ap (disk_from s.disk Written) at)
 
-    go : (b : Bool) → flight.present ≡ b → LeadsQuietly w moment
-    go true e = leads_so w w [] further moment (core_then s w journal ticket flight r t m.can.going at log none) (written s.disk flight.sector flight.block) stays refl (core_by true e) disk_is
+    go : (b : Bool) → flight.present ≡ b → LeadsQuietly w moment further
+    go true e = leads_so w w [] (λ segments. tt) further moment (core_then s w journal ticket flight r t m.can.going at log none) (written s.disk flight.sector flight.block) stays refl (core_by true e) disk_is
         (arrived_tied s w journal ticket flight r t m.can.going at log none) (readings s w journal ticket flight r t m.can.going at log none) js
-    go false e = leads_so w w [] further moment (record s.core { flights = without s.core.flights ticket }) (written s.disk flight.sector flight.block) stays refl (core_by false e) disk_is
+    go false e = leads_so w w [] (λ segments. tt) further moment (record s.core { flights = without s.core.flights ticket }) (written s.disk flight.sector flight.block) stays refl (core_by false e) disk_is
         (drifted_tied s w journal ticket flight r t m.can.going at log none) t.readings js
 
 pub seals_fail : SealsFail
@@ -294,10 +304,10 @@ seals_fail s w journal further ticket flight new r t at place log none m js = go
     core_by b e = sym (ap (arrived_from s.core ticket (PutFailed new)) at
         ∙ ap (λ h. if h then record (landed_core s.core ticket) { over = true } else with_server (landed_core s.core ticket) flight.server (failed_by (s.core.servers flight.server))) e)
 
-    go : (b : Bool) → (flight.server == host_party) ≡ b → LeadsQuietly w moment
-    go true e = leads_so w w [] further moment (record s.core { flights = without s.core.flights ticket; over = true }) (disk_with s.disk flight (PutFailed new)) stays refl (core_by true e) disk_is
+    go : (b : Bool) → (flight.server == host_party) ≡ b → LeadsQuietly w moment further
+    go true e = leads_so w w [] (λ segments. tt) further moment (record s.core { flights = without s.core.flights ticket; over = true }) (disk_with s.disk flight (PutFailed new)) stays refl (core_by true e) disk_is
         (over_tied s w journal ticket flight r t m.can.going at log none (disk_with s.disk flight (PutFailed new)) (disk_failed s w journal ticket flight r t m.can.going at log none new)) t.readings js
-    go false e = leads_so w (after w (Fail flight.server)) (Fail flight.server ∷ []) further moment
+    go false e = leads_so w (after w (Fail flight.server)) (Fail flight.server ∷ []) (λ segments. (tt, tt)) further moment
         (record s.core { flights = without s.core.flights ticket; servers = put s.core.servers flight.server (failed_by (s.core.servers flight.server)) }) (disk_with s.disk flight (PutFailed new))
         (goes tt stays) refl (core_by false e) disk_is
         (broken_tied s w journal ticket flight r t m.can.going at log none (disk_with s.disk flight (PutFailed new)) (disk_failed s w journal ticket flight r t m.can.going at log none new))

@@ -8,6 +8,8 @@ use Rattle.sector_world.specs.World.{World, Flight, ByteFlight}
 use Rattle.sector_world.specs.Steps.{Event, Run, after, stays, goes}
 use Rattle.sector_world.specs.Steps.Event.{Fade, FadeBytes}
 use Rattle.core_lives.proofs.Emptying.{joined}
+use Rattle.core_world.specs.Quiet.{AllQuiet}
+use Rattle.core_world.proofs.Quiet.{quiet_both}
 
 -- ---- of one kind
 
@@ -57,6 +59,7 @@ pub record ShedsFlights (sectors : List ℕ) (w : World) : Type 0 where
   pub events : List Event
   pub flight : ℕ → Option Flight
   pub run : Run w events (record w { flight = flight })
+  pub quiet : (segments : ℕ) → AllQuiet segments w events
   pub shed : IsShed (λ (f : Flight). f.stamp) w.now sectors w.flight flight
 
 shed_one : (s : ℕ) (sectors : List ℕ) (w : World) → ((v : World) → ShedsFlights sectors v) → ShedsFlights (s ∷ sectors) w
@@ -64,7 +67,7 @@ shed_one s sectors w rest = go (w.flight s) refl
   where
     as_it_is : ((f : Flight) → w.flight s ≡ Some f → w.now ≤ f.stamp) → ShedsFlights (s ∷ sectors) w
     as_it_is here = let x : ShedsFlights sectors w = rest w in
-        record { events = x.events; flight = x.flight; run = x.run; shed = shed_same (λ (f : Flight). f.stamp) w.now s sectors w.flight x.flight here x.shed }
+        record { events = x.events; flight = x.flight; run = x.run; quiet = x.quiet; shed = shed_same (λ (f : Flight). f.stamp) w.now s sectors w.flight x.flight here x.shed }
 
     by_time : (f : Flight) → w.flight s ≡ Some f → (w.now ≤ f.stamp) ⊎ (f.stamp < w.now) → ShedsFlights (s ∷ sectors) w
     by_time f e (inl early) = as_it_is (λ g i. subst (λ (z : Flight). w.now ≤ z.stamp) (same_Some f g (sym e ∙ i)) early)
@@ -73,6 +76,7 @@ shed_one s sectors w rest = go (w.flight s) refl
           events = Fade s f ∷ x.events;
           flight = x.flight;
           run = goes (record { there = e; late = inl late }) x.run;
+          quiet = λ segments. (tt, x.quiet segments);
           shed = shed_put (λ (z : Flight). z.stamp) w.now s sectors w.flight x.flight f e late x.shed;
         }
 
@@ -81,7 +85,7 @@ shed_one s sectors w rest = go (w.flight s) refl
     go (Some f) e = by_time f e (le_or_lt w.now f.stamp)
 
 shed_flights : (sectors : List ℕ) (w : World) → ShedsFlights sectors w
-shed_flights [] w = record { events = []; flight = w.flight; run = stays; shed = shed_none (λ (f : Flight). f.stamp) w.now w.flight }
+shed_flights [] w = record { events = []; flight = w.flight; run = stays; quiet = λ segments. tt; shed = shed_none (λ (f : Flight). f.stamp) w.now w.flight }
 shed_flights (s ∷ sectors) w = shed_one s sectors w (λ v. shed_flights sectors v)
 
 -- ---- of bytes
@@ -90,6 +94,7 @@ pub record ShedsBytes (sectors : List ℕ) (w : World) : Type 0 where
   pub events : List Event
   pub byte_flight : ℕ → Option ByteFlight
   pub run : Run w events (record w { byte_flight = byte_flight })
+  pub quiet : (segments : ℕ) → AllQuiet segments w events
   pub shed : IsShed (λ (f : ByteFlight). f.stamp) w.now sectors w.byte_flight byte_flight
 
 shed_one_bytes : (s : ℕ) (sectors : List ℕ) (w : World) → ((v : World) → ShedsBytes sectors v) → ShedsBytes (s ∷ sectors) w
@@ -97,7 +102,7 @@ shed_one_bytes s sectors w rest = go (w.byte_flight s) refl
   where
     as_it_is : ((f : ByteFlight) → w.byte_flight s ≡ Some f → w.now ≤ f.stamp) → ShedsBytes (s ∷ sectors) w
     as_it_is here = let x : ShedsBytes sectors w = rest w in
-        record { events = x.events; byte_flight = x.byte_flight; run = x.run; shed = shed_same (λ (f : ByteFlight). f.stamp) w.now s sectors w.byte_flight x.byte_flight here x.shed }
+        record { events = x.events; byte_flight = x.byte_flight; run = x.run; quiet = x.quiet; shed = shed_same (λ (f : ByteFlight). f.stamp) w.now s sectors w.byte_flight x.byte_flight here x.shed }
 
     by_time : (f : ByteFlight) → w.byte_flight s ≡ Some f → (w.now ≤ f.stamp) ⊎ (f.stamp < w.now) → ShedsBytes (s ∷ sectors) w
     by_time f e (inl early) = as_it_is (λ g i. subst (λ (z : ByteFlight). w.now ≤ z.stamp) (same_Some f g (sym e ∙ i)) early)
@@ -106,6 +111,7 @@ shed_one_bytes s sectors w rest = go (w.byte_flight s) refl
           events = FadeBytes s f ∷ x.events;
           byte_flight = x.byte_flight;
           run = goes (record { there = e; late = inl late }) x.run;
+          quiet = λ segments. (tt, x.quiet segments);
           shed = shed_put (λ (z : ByteFlight). z.stamp) w.now s sectors w.byte_flight x.byte_flight f e late x.shed;
         }
 
@@ -114,7 +120,7 @@ shed_one_bytes s sectors w rest = go (w.byte_flight s) refl
     go (Some f) e = by_time f e (le_or_lt w.now f.stamp)
 
 shed_bytes : (sectors : List ℕ) (w : World) → ShedsBytes sectors w
-shed_bytes [] w = record { events = []; byte_flight = w.byte_flight; run = stays; shed = shed_none (λ (f : ByteFlight). f.stamp) w.now w.byte_flight }
+shed_bytes [] w = record { events = []; byte_flight = w.byte_flight; run = stays; quiet = λ segments. tt; shed = shed_none (λ (f : ByteFlight). f.stamp) w.now w.byte_flight }
 shed_bytes (s ∷ sectors) w = shed_one_bytes s sectors w (λ v. shed_bytes sectors v)
 
 -- ---- both
@@ -124,6 +130,7 @@ pub record Sheds (sectors : List ℕ) (w : World) : Type 0 where
   pub flight : ℕ → Option Flight
   pub byte_flight : ℕ → Option ByteFlight
   pub run : Run w events (record w { flight = flight; byte_flight = byte_flight })
+  pub quiet : (segments : ℕ) → AllQuiet segments w events
   pub shed : IsShed (λ (f : Flight). f.stamp) w.now sectors w.flight flight
   pub shed_bytes : IsShed (λ (f : ByteFlight). f.stamp) w.now sectors w.byte_flight byte_flight
 
@@ -136,6 +143,7 @@ sheds sectors w =
       flight = x.flight;
       byte_flight = y.byte_flight;
       run = joined w (record w { flight = x.flight }) (record w { flight = x.flight; byte_flight = y.byte_flight }) x.events y.events x.run y.run;
+      quiet = λ segments. quiet_both segments w (record w { flight = x.flight }) x.events y.events x.run (x.quiet segments) (y.quiet segments);
       shed = x.shed;
       shed_bytes = y.shed;
     }

@@ -61,9 +61,9 @@ dead_is life.Dead e = refl
 room_less : (r q n : ℕ) → r ≤ q → q + 100 * n ≤ 2 ^ 61 → r + 100 * n ≤ 2 ^ 61
 room_less r q n l h = omega (arith, l, h)
 
-module _ (s : RunMoment) (w : World) (free : ClearedAreFree s.core.servers w) (room : (a : ℕ) → IsTrue (is_server a) → HasRoom s a) where
+module _ (s : RunMoment) (w : World) (journal : ℕ → Journal) (free : ClearedAreFree s.core.servers w) (room : (a : ℕ) → IsTrue (is_server a) → HasRoom s a) where
   -- of which none tells
-  quiet_goes : (v : RunMoment) → ((b : ℕ) → (v.core.servers b).cache ≡ (s.core.servers b).cache) → ((a : ℕ) → HasRoom s a → HasRoom v a) → LeadsQuietly w v → GoesOn w v
+  quiet_goes : (v : RunMoment) → ((b : ℕ) → (v.core.servers b).cache ≡ (s.core.servers b).cache) → ((a : ℕ) → HasRoom s a → HasRoom v a) → LeadsQuietly w v journal → GoesOn w v journal
   quiet_goes v caches rooms x = record {
     leads = x.leads;
     entries = [];
@@ -75,6 +75,7 @@ module _ (s : RunMoment) (w : World) (free : ClearedAreFree s.core.servers w) (r
       home = x.story.home;
       history = x.story.history;
     };
+    quiet = x.quiet;
     cleared = stay_free s.core.servers v.core.servers w x.leads.world (λ a i cached e. ap (λ k. value_at k i) (sym (caches a)) ∙ e) x.story.first x.story.logged (ap settled x.story.history) free;
     room = λ a who. rooms a (room a who);
   }
@@ -95,8 +96,8 @@ module _ (s : RunMoment) (w : World) (free : ClearedAreFree s.core.servers w) (r
 
   -- a call that failed
   failed_goes : (by : ℕ) (deeds : List Deed) (host : Bool) →
-      LeadsQuietly w (record { core = if host then record s.core { over = true } else with_server s.core by (failed_by (s.core.servers by)); disk = s.disk; record_ = deeds }) →
-      GoesOn w (record { core = if host then record s.core { over = true } else with_server s.core by (failed_by (s.core.servers by)); disk = s.disk; record_ = deeds })
+      LeadsQuietly w (record { core = if host then record s.core { over = true } else with_server s.core by (failed_by (s.core.servers by)); disk = s.disk; record_ = deeds }) journal →
+      GoesOn w (record { core = if host then record s.core { over = true } else with_server s.core by (failed_by (s.core.servers by)); disk = s.disk; record_ = deeds }) journal
   failed_goes by deeds true x = quiet_goes _ (λ b. refl) (λ a h. h) x
   failed_goes by deeds false x = quiet_goes _ (cache_put by (failed_by (s.core.servers by)) refl) (room_put by (failed_by (s.core.servers by)) (λ slots. refl)) x
 
@@ -171,7 +172,7 @@ module _ (ends : GoodLogsEndWithin) (s : RunMoment) (w : World) (journal : ℕ �
           (subst (λ n. n + 100 * lines_left c.setting.script c.answered d ≤ 2 ^ 61) (sym (ended_dead c.servers by d (λ x. reach_of x (slots_of s.disk d)) d refl)) rests)
       go (inr n) = subst (λ m. m + 100 * lines_left c.setting.script c.answered a ≤ 2 ^ 61) (sym (ended_other c.servers by d (λ x. reach_of x (slots_of s.disk a)) refl a n)) (room a who)
 
-  ended_goes : ClearedAreFree c.servers w → ((a : ℕ) → IsTrue (is_server a) → HasRoom s a) → LeadsWith w (next s (Finish by) Nothing) (Recovered d (w.durable d)) → GoesOn w (next s (Finish by) Nothing)
+  ended_goes : ClearedAreFree c.servers w → ((a : ℕ) → IsTrue (is_server a) → HasRoom s a) → LeadsWith w (next s (Finish by) Nothing) journal (Recovered d (w.durable d)) → GoesOn w (next s (Finish by) Nothing) journal
   ended_goes free room x = record {
     leads = x.leads;
     entries = Recovered d (w.durable d) ∷ [];
@@ -183,6 +184,7 @@ module _ (ends : GoodLogsEndWithin) (s : RunMoment) (w : World) (journal : ℕ �
       home = x.story.home;
       history = x.story.history;
     };
+    quiet = x.quiet;
     cleared = ended_free free x.leads.world x.story.first x.story.logged x.story.history;
     room = ended_room room;
   }
@@ -193,11 +195,11 @@ module _ (begins : BeginsAreEvents) (loads : LoadsAreNone) (looks : LooksAreEven
     (ends : GoodLogsEndWithin) (of_dead : RecoveriesAreOfTheDead) (nothing : OffHasNothing) where
   module _ (s : RunMoment) (w : World) (journal : ℕ → Journal) (r : IsReached s) (t : IsWorldOf s w journal) (g : Good w) (free : ClearedAreFree s.core.servers w)
       (room : (a : ℕ) → IsTrue (is_server a) → HasRoom s a) where
-    load_goes : (by slot : ℕ) (heard : Heard) → Makes s (Load by slot) heard → AreLogsAsAsked s w (Load by slot) heard → GoesOn w (next s (Load by slot) heard)
+    load_goes : (by slot : ℕ) (heard : Heard) → Makes s (Load by slot) heard → AreLogsAsAsked s w (Load by slot) heard → GoesOn w (next s (Load by slot) heard) journal
     load_goes by slot (Got block) m asked =
-        quiet_goes s w free room (next s (Load by slot) (Got block)) (cache_put s w free room by _ refl) (room_put s w free room by _ (λ slots. refl)) (loads s w journal by slot block r t m asked)
+        quiet_goes s w journal free room (next s (Load by slot) (Got block)) (cache_put s w journal free room by _ refl) (room_put s w journal free room by _ (λ slots. refl)) (loads s w journal by slot block r t m asked)
     load_goes by slot GetFailed m asked =
-        failed_goes s w free room by (next s (Load by slot) GetFailed).record_ (by == host_party) (failed_loads s w journal by slot r t m)
+        failed_goes s w journal free room by (next s (Load by slot) GetFailed).record_ (by == host_party) (failed_loads s w journal by slot r t m)
     load_goes by slot Nothing m asked = absurd (none (s.core.servers by).recovery m.hears)
       where
         none : (o : Option Recovery) → MayLoad s.disk slot o Nothing → ⊥
@@ -219,21 +221,21 @@ module _ (begins : BeginsAreEvents) (loads : LoadsAreNone) (looks : LooksAreEven
         none None h = h
         none (Some x) h = h
 
-    look_goes : (by sector : ℕ) (heard : Heard) → Makes s (Look by sector) heard → GoesOn w (next s (Look by sector) heard)
+    look_goes : (by sector : ℕ) (heard : Heard) → Makes s (Look by sector) heard → GoesOn w (next s (Look by sector) heard) journal
     look_goes by sector (Got block) m =
-        quiet_goes s w free room (next s (Look by sector) (Got block)) (cache_put s w free room by _ refl) (room_put s w free room by _ (λ slots. refl)) (looks s w journal by sector block r t g m)
+        quiet_goes s w journal free room (next s (Look by sector) (Got block)) (cache_put s w journal free room by _ refl) (room_put s w journal free room by _ (λ slots. refl)) (looks s w journal by sector block r t g m)
     look_goes by sector GetFailed m =
-        failed_goes s w free room by (next s (Look by sector) GetFailed).record_ (by == host_party) (failed_looks s w journal by sector r t m)
+        failed_goes s w journal free room by (next s (Look by sector) GetFailed).record_ (by == host_party) (failed_looks s w journal by sector r t m)
     look_goes by sector Nothing m = absurd m.hears
     look_goes by sector Written m = absurd m.hears
     look_goes by sector Late m = absurd m.hears
     look_goes by sector (PutFailed new) m = absurd m.hears
 
-    recover_goes : (dead by : ℕ) → Makes s (Recover dead by) Nothing → GoesOn w (next s (Recover dead by) Nothing)
+    recover_goes : (dead by : ℕ) → Makes s (Recover dead by) Nothing → GoesOn w (next s (Recover dead by) Nothing) journal
     recover_goes dead by m =
-        quiet_goes s w free room (next s (Recover dead by) Nothing) (cache_put s w free room by _ refl) (room_put s w free room by _ (λ slots. refl)) (begins s w journal dead by r t m)
+        quiet_goes s w journal free room (next s (Recover dead by) Nothing) (cache_put s w journal free room by _ refl) (room_put s w journal free room by _ (λ slots. refl)) (begins s w journal dead by r t m)
 
-    finish_goes : (by : ℕ) → Makes s (Finish by) Nothing → AreLogsAsAsked s w (Finish by) Nothing → GoesOn w (next s (Finish by) Nothing)
+    finish_goes : (by : ℕ) → Makes s (Finish by) Nothing → AreLogsAsAsked s w (Finish by) Nothing → GoesOn w (next s (Finish by) Nothing) journal
     finish_goes by m asked =
         ended_goes ends s w journal t g by x.recovery x.is dead.0 dead.1
         (nothing (setting_of r.script r.segments r.number) r.disk s r.run x.recovery.dead dead.0
@@ -248,11 +250,11 @@ module _ (begins : BeginsAreEvents) (loads : LoadsAreNone) (looks : LooksAreEven
 
   pub recoveries_go_on : RecoveriesGoOn
   recoveries_go_on s w journal (Recover dead by) heard r t g m told asked free room =
-      subst (λ h. Makes s (Recover dead by) h → GoesOn w (next s (Recover dead by) h)) (sym m.hears) (λ n. recover_goes s w journal r t g free room dead by n) m
+      subst (λ h. Makes s (Recover dead by) h → GoesOn w (next s (Recover dead by) h) journal) (sym m.hears) (λ n. recover_goes s w journal r t g free room dead by n) m
   recoveries_go_on s w journal (Load by slot) heard r t g m told asked free room = load_goes s w journal r t g free room by slot heard m asked
   recoveries_go_on s w journal (Look by sector) heard r t g m told asked free room = look_goes s w journal r t g free room by sector heard m
   recoveries_go_on s w journal (Finish by) heard r t g m told asked free room =
-      subst (λ h. Makes s (Finish by) h → GoesOn w (next s (Finish by) h)) (sym m.hears) (λ n. finish_goes s w journal r t g free room by n asked) m
+      subst (λ h. Makes s (Finish by) h → GoesOn w (next s (Finish by) h) journal) (sym m.hears) (λ n. finish_goes s w journal r t g free room by n asked) m
   recoveries_go_on s w journal (Begin a) heard r t g m told asked free room = absurd (false≢true told)
   recoveries_go_on s w journal (Ask a lock mode) heard r t g m told asked free room = absurd (false≢true told)
   recoveries_go_on s w journal (Fetch a sector) heard r t g m told asked free room = absurd (false≢true told)

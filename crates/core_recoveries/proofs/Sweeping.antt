@@ -13,6 +13,7 @@ use Rattle.sector_world.specs.Steps.{Event, Run, found, stays, goes}
 use Rattle.sector_world.specs.Steps.Event.{Look}
 use Rattle.sector_world.specs.World.{World, InPlace, Rescue, Told}
 use Rattle.core_recoveries.proofs.Found.{found_same}
+use Rattle.core_world.specs.Quiet.{AllQuiet}
 
 -- ---- the sectors that records name
 
@@ -55,6 +56,7 @@ pub record Sweeps (sectors : List ℕ) (w : World) (dead by : ℕ) (before : ℕ
   pub events : List Event
   pub told : ℕ → Told
   pub run : Run (rescued_by w (rescue_of dead by before)) events (rescued_by w (rescue_of dead by told))
+  pub quiet : (segments : ℕ) → AllQuiet segments (rescued_by w (rescue_of dead by before)) events
   pub kept : (s : ℕ) → before s ≡ InPlace → told s ≡ InPlace
   pub all : (s : ℕ) → Among s sectors → told s ≡ InPlace
 
@@ -68,6 +70,7 @@ sweep_one s sectors w dead by before same x = record {
   events = Look (rescue_of dead by before) s ∷ x.events;
   told = x.told;
   run = goes refl x.run;
+  quiet = λ segments. (tt, x.quiet segments);
   kept = λ t e. x.kept t (at_put (λ z. z ≡ InPlace) before s (found_at w dead s) t (λ i. in_place) (λ n. e));
   all = all;
 }
@@ -80,5 +83,5 @@ sweep_one s sectors w dead by before same x = record {
     all t (inr i) = x.all t i
 
 pub sweeps : (sectors : List ℕ) (w : World) (dead by : ℕ) (before : ℕ → Told) → ((s : ℕ) → redo_all (to_replay w dead) s (w.disk s) ≡ w.disk s) → Sweeps sectors w dead by before
-sweeps [] w dead by before same = record { events = []; told = before; run = stays; kept = λ s e. e; all = λ s i. absurd i }
+sweeps [] w dead by before same = record { events = []; told = before; run = stays; quiet = λ segments. tt; kept = λ s e. e; all = λ s i. absurd i }
 sweeps (s ∷ sectors) w dead by before same = sweep_one s sectors w dead by before (same s) (sweeps sectors w dead by (put before s (found_at w dead s)) same)

@@ -24,6 +24,7 @@ use Rattle.sector_world.specs.Kinds.{Good}
 use Rattle.sector_world.specs.Logged.{ToldOk}
 use Rattle.sector_world.specs.World.{World, InPlace, Told}
 use Rattle.sector_world.proofs.Finishing.{none_replay}
+use Rattle.core_definitions.specs.Flights.{Flights}
 use Rattle.core_world.specs.Readings.{AreNamed}
 use Rattle.core_world.specs.Ties.{IsRescueOf, IsStuck, IsTold, IsToldOnce}
 
@@ -50,8 +51,8 @@ module _ (c : Core) (recovery : Recovery) (done : IsDone c recovery) where
   written s block e = done.written s block (in_contains recovery.looked (s, Some block) (value_among recovery.looked s (Some block) e))
 
   -- it can end
-  pub not_stuck : (failed : Bool) → IsStuck failed recovery → ⊥
-  not_stuck failed z = false≢true (sym z.unwritten ∙ written z.sector z.block z.looked)
+  pub not_stuck : (by : ℕ) (flights : Flights) (failed : Bool) → IsStuck by flights failed recovery → ⊥
+  not_stuck by flights failed z = false≢true (sym z.unwritten ∙ written z.sector z.block z.looked)
 
   in_place : (s : ℕ) (look : Option (Option Block)) (told : Told) → value_at recovery.looked s ≡ look → IsSome look → IsTold recovery s look told → told ≡ InPlace
   in_place s None told e some t = absurd (false≢true some)

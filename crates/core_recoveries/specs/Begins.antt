@@ -11,4 +11,4 @@ use Rattle.core_world.specs.Steps.{IsReached, IsWorldOf}
 abbrev pub BeginsAreEvents : Type 0
 BeginsAreEvents =
     (s : RunMoment) (w : World) (journal : ℕ → Journal) (dead by : ℕ) → IsReached s → IsWorldOf s w journal → Makes s (Recover dead by) Nothing →
-    LeadsQuietly w (next s (Recover dead by) Nothing)
+    LeadsQuietly w (next s (Recover dead by) Nothing) journal

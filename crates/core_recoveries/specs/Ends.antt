@@ -16,4 +16,4 @@ abbrev pub FinishesLeadOn : Type 0
 FinishesLeadOn =
     (s : RunMoment) (w : World) (journal : ℕ → Journal) (by : ℕ) (recovery : Recovery) → IsReached s → IsWorldOf s w journal → Good w → Makes s (Finish by) Nothing →
     (s.core.servers by).recovery ≡ Some recovery → IsAtRest (slots_of s.disk recovery.dead) (sector_log w recovery.dead) →
-    LeadsWith w (next s (Finish by) Nothing) (Recovered recovery.dead (w.durable recovery.dead))
+    LeadsWith w (next s (Finish by) Nothing) journal (Recovered recovery.dead (w.durable recovery.dead))

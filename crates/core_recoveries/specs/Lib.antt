@@ -5,3 +5,4 @@ pub mod Ends
 pub mod Failures
 pub mod Seals
 pub mod Steps
+pub mod Logs

@@ -22,24 +22,24 @@ use Rattle.core_world.specs.Steps.{IsReached, IsWorldOf}
 abbrev pub LoadsAreNone : Type 0
 LoadsAreNone =
     (s : RunMoment) (w : World) (journal : ℕ → Journal) (by slot : ℕ) (block : Block) → IsReached s → IsWorldOf s w journal → Makes s (Load by slot) (Got block) →
-    AreReadings s.core.setting.segments (next s (Load by slot) (Got block)).core.servers w → LeadsQuietly w (next s (Load by slot) (Got block))
+    AreReadings s.core.setting.segments (next s (Load by slot) (Got block)).core.servers w → LeadsQuietly w (next s (Load by slot) (Got block)) journal
 
 -- a Look
 abbrev pub LooksAreEvents : Type 0
 LooksAreEvents =
     (s : RunMoment) (w : World) (journal : ℕ → Journal) (by sector : ℕ) (block : Block) → IsReached s → IsWorldOf s w journal → Good w → Makes s (Look by sector) (Got block) →
-    LeadsQuietly w (next s (Look by sector) (Got block))
+    LeadsQuietly w (next s (Look by sector) (Got block)) journal
 
 -- one of these that fails
 abbrev pub FailedLoadsAreEvents : Type 0
 FailedLoadsAreEvents =
     (s : RunMoment) (w : World) (journal : ℕ → Journal) (by slot : ℕ) → IsReached s → IsWorldOf s w journal → Makes s (Load by slot) GetFailed →
-    LeadsQuietly w (next s (Load by slot) GetFailed)
+    LeadsQuietly w (next s (Load by slot) GetFailed) journal
 
 abbrev pub FailedLooksAreEvents : Type 0
 FailedLooksAreEvents =
     (s : RunMoment) (w : World) (journal : ℕ → Journal) (by sector : ℕ) → IsReached s → IsWorldOf s w journal → Makes s (Look by sector) GetFailed →
-    LeadsQuietly w (next s (Look by sector) GetFailed)
+    LeadsQuietly w (next s (Look by sector) GetFailed) journal
 
 -- ---- what is asked of a Load
 

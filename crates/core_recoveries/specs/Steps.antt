@@ -32,4 +32,4 @@ AreLogsAsAsked s w event heard = Unit {0}
 abbrev pub RecoveriesGoOn : Type 0
 RecoveriesGoOn =
     (s : RunMoment) (w : World) (journal : ℕ → Journal) (event : Event) (heard : Heard) → IsReached s → IsWorldOf s w journal → Good w → Makes s event heard → IsTrue (is_of_recoveries event) →
-    AreLogsAsAsked s w event heard → ClearedAreFree s.core.servers w → ((a : ℕ) → IsTrue (is_server a) → HasRoom s a) → GoesOn w (next s event heard)
+    AreLogsAsAsked s w event heard → ClearedAreFree s.core.servers w → ((a : ℕ) → IsTrue (is_server a) → HasRoom s a) → GoesOn w (next s event heard) journal

@@ -123,13 +123,12 @@ asks_so s w journal a lock mode r t makes = go (want_answer s.core.locks a lock 
     asked_of : IsTrue (life.is_up (s.core.servers a).phase) × (serves (held s.core.locks a lock) mode ≡ false)
     asked_of = asked_is (claim_of s.core.locks a) (s.core.servers a) (lock, mode) (stage_asks s.core.setting s.core.locks a (s.core.servers a) (lock, mode) can.least)
 
-    go : (answer : Wanted) → want_answer s.core.locks a lock mode ≡ answer → LeadsQuietly w (next s (Ask a lock mode) Nothing)
+    go : (answer : Wanted) → want_answer s.core.locks a lock mode ≡ answer → LeadsQuietly w (next s (Ask a lock mode) Nothing) journal
     go Granted e = record {
       leads = record {
         events = Take a lock mode ∷ [];
         world = after w (Take a lock mode);
         run = goes (take_guard s.core s.disk w a lock mode t.tied are inside asked_of.0 asked_of.1 e) stays;
-        journal = journal;
         is = record {
           tied = subst (λ o. AreTied (record s.core { locks = changed s.core.locks a lock (answered o mode) }) s.disk (after w (Take a lock mode))) (sym e)
               (granted_keeps s.core s.disk w a lock mode t.tied are inside asked_of.0 asked_of.1);
@@ -138,13 +137,13 @@ asks_so s w journal a lock mode r t makes = go (want_answer s.core.locks a lock 
         };
       };
       story = record { servers = refl; opening = refl; logged = refl; first = refl; home = refl; history = refl };
+      quiet = (tt, tt);
     }
     go (Wait others) e = record {
       leads = record {
         events = [];
         world = w;
         run = stays;
-        journal = journal;
         is = record {
           tied = subst (λ o. AreTied (record s.core { locks = changed s.core.locks a lock (answered o mode) }) s.disk w) (sym e)
               (wished_keeps s.core s.disk w a lock mode t.tied are inside asked_of.0 asked_of.1);
@@ -153,4 +152,5 @@ asks_so s w journal a lock mode r t makes = go (want_answer s.core.locks a lock 
         };
       };
       story = record { servers = refl; opening = refl; logged = refl; first = refl; home = refl; history = refl };
+      quiet = tt;
     }

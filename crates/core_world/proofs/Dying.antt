@@ -34,6 +34,7 @@ use Rattle.core_world.specs.Events.{DeathsAreEvents, LeadsQuietly}
 use Rattle.core_world.specs.Journals.{AreJournals, AreReadings, AreSent, IsJournal, IsLogOf, IsSent, Journal, SectorLog, sector_log}
 use Rattle.core_world.specs.Steps.{IsWorldOf}
 use Rattle.core_world.proofs.Fading.{Fades, FadesAll, HasNone, all_fade, from_lost, into_lost, lost_left, own, own_bytes}
+use Rattle.core_world.proofs.Same.{AreOfThose, among_those, rescues_on, stuck_on}
 use Rattle.core_world.specs.Ties.{AreTied, AreLives, AreCached, AreFlying, AreRescues, AreLogged, AreMarked, IsCachedAs, IsMarkedAs, IsFlying, IsShown, IsRescueOf, IsStuck, is_working, is_log_sector, phase_of, expiry_at}
 
 -- what a write is after its server's death
@@ -152,14 +153,22 @@ module _ (c : Core) (disk : Sectors) (w : World) (a : ℕ) (fate : Fate) (t : Ar
           none false = refl
       go (inr n) = (n, at_put (λ x. IsTrue ((is_server by && life.is_up x.phase) || by == host_party) → IsTrue (is_working c.servers by)) c.servers a new by (λ e. absurd (n e)) (λ m h. h) who)
 
-  rescues : AreRescues fallen_servers (after w (Crash a))
-  rescues = record {
+  rescues : AreRescues c.servers c.flights w → AreRescues fallen_servers (left_behind a c.flights) (after w (Crash a))
+  rescues old = record {
     under_way = λ by r who. let q = works by who in
-        at_put (λ x. x.recovery ≡ Some r → IsRescueOf by r (rescue_left a w.rescue) ⊎ IsStuck x.failed r) c.servers a new by (λ e. absurd (q.0 e))
-        (λ n e. ⊎_elim (λ g. inl (still by r q.0 g)) (λ g. inr g) (t.rescues.under_way by r q.1 e));
-    known = λ r e. let l = left_is a w.rescue r e in let k = t.rescues.known r l.0 in (k.0, at_put (λ x. x.recovery ≡ Some k.0) c.servers a new r.by (λ i. absurd (l.1 i)) (λ n. k.1), k.2);
+        at_put (λ x. x.recovery ≡ Some r → IsRescueOf by r (rescue_left a w.rescue) ⊎ IsStuck by (left_behind a c.flights) x.failed r) c.servers a new by (λ e. absurd (q.0 e))
+        (λ n e. ⊎_elim (λ g. inl (still by r q.0 g)) (λ z. inr (stuck_on by (left_behind a c.flights) c.flights (c.servers by).failed r of_those z)) (old.under_way by r q.1 e));
+    known = λ r e. let l = left_is a w.rescue r e in let k = old.known r l.0 in (k.0, at_put (λ x. x.recovery ≡ Some k.0) c.servers a new r.by (λ i. absurd (l.1 i)) (λ n. k.1), k.2);
   }
     where
+      those_behind : (x : ℕ × core.Flight) → ((behind a x).1.server ≡ x.1.server) × ((behind a x).1.sector ≡ x.1.sector)
+      those_behind x = by_test (λ (y : ℕ × core.Flight). (y.1.server ≡ x.1.server) × (y.1.sector ≡ x.1.sector)) (x.0, record x.1 { present = false }) x (x.1.server == a) (λ e. (refl, refl)) (λ e. (refl, refl))
+
+      of_those : AreOfThose (left_behind a c.flights) c.flights
+      of_those one i = let r : FromMap (behind a) c.flights one = from_map (behind a) c.flights one (contains_in (left_behind a c.flights) one i) in
+          let same = those_behind r.from in
+          (r.from, in_contains c.flights r.from r.there, sym same.0 ∙ ap (λ (x : ℕ × core.Flight). x.1.server) r.is, sym same.1 ∙ ap (λ (x : ℕ × core.Flight). x.1.sector) r.is)
+
       still : (by : ℕ) (r : Recovery) → by ≢ a → IsRescueOf by r w.rescue → IsRescueOf by r (rescue_left a w.rescue)
       still by r n g = record {
         r = g.r;
@@ -185,7 +194,7 @@ module _ (c : Core) (disk : Sectors) (w : World) (a : ℕ) (fate : Fate) (t : Ar
     marked = marked;
     flying = λ e. flying (t.flying e);
     disk = t.disk;
-    rescues = rescues;
+    rescues = λ e. rescues (t.rescues e);
     logged = logged;
   }
 
@@ -249,7 +258,8 @@ faded_keeps c disk w a t x = subst (λ v. AreTied (record c { flights = lost a c
   flying = λ e. fewer_flying c.setting.segments c.now a c.flights w x.world x.fades (λ one i. x.none one.1.sector (into_map (λ (o : ℕ × core.Flight). o.1.sector) c.flights one i))
       (λ one i. x.none_bytes one.1.sector (into_map (λ (o : ℕ × core.Flight). o.1.sector) c.flights one i)) (t.flying e);
   disk = t.disk;
-  rescues = t.rescues;
+  rescues = λ e. rescues_on c.servers (lost a c.flights) c.flights (record w { flight = x.world.flight; byte_flight = x.world.byte_flight })
+      (among_those (lost a c.flights) c.flights (λ one i. in_contains c.flights one (from_lost a c.flights one (contains_in (lost a c.flights) one i)).0)) (t.rescues e);
   logged = t.logged;
 })
 
@@ -357,26 +367,25 @@ module _ (s : RunMoment) (w : World) (journal : ℕ → Journal) (a : ℕ) (fate
   journals_left = die_journals s.core s.disk w a fate doomed journal t.journals
 
   -- what it has in flight stays
-  pub stays_behind : LeadsQuietly w (left_with (left_behind a s.core.flights))
+  pub stays_behind : LeadsQuietly w (left_with (left_behind a s.core.flights)) journal
   stays_behind = record {
     leads = record {
       events = Crash a ∷ [];
       world = crashed;
       run = goes crash stays;
-      journal = journal;
       is = record { tied = die_keeps s.core s.disk w a fate t.tied server; journals = journals_left; readings = readings_left };
     };
     story = record { servers = refl; opening = refl; logged = refl; first = refl; home = refl; history = refl };
+    quiet = (tt, tt);
   }
 
   -- or it fades
-  pub goes_with : LeadsQuietly w (left_with (lost a s.core.flights))
-  goes_with = subst (λ flights. LeadsQuietly w (left_with flights)) (lost_left a s.core.flights) (record {
+  pub goes_with : LeadsQuietly w (left_with (lost a s.core.flights)) journal
+  goes_with = subst (λ flights. LeadsQuietly w (left_with flights) journal) (lost_left a s.core.flights) (record {
     leads = record {
       events = Crash a ∷ x.events;
       world = x.world;
       run = goes crash x.run;
-      journal = journal;
       is = record {
         tied = faded_keeps (record s.core { servers = servers_left; flights = left_behind a s.core.flights }) s.disk crashed a (die_keeps s.core s.disk w a fate t.tied server) x;
         journals = subst (λ v. AreJournals servers_left s.core.now (lost a (left_behind a s.core.flights)) s.disk v journal) (sym x.fades.same)
@@ -392,13 +401,14 @@ module _ (s : RunMoment) (w : World) (journal : ℕ → Journal) (a : ℕ) (fate
       home = ap (λ v. v.home) x.fades.same;
       history = ap (λ v. v.history) x.fades.same;
     };
+    quiet = (tt, x.quiet s.core.setting.segments);
   })
     where
       x : FadesAll a (sectors_of_flights (left_behind a s.core.flights)) crashed
       x = all_fade a (sectors_of_flights (left_behind a s.core.flights)) crashed (put_same w.phase a Dead)
 
 pub deaths : DeathsAreEvents
-deaths s w journal a fate r t doomed makes = subst (λ p. LeadsQuietly w (fallen p)) (sym doomed) (go fate.loses refl)
+deaths s w journal a fate r t doomed makes = subst (λ p. LeadsQuietly w (fallen p) journal) (sym doomed) (go fate.loses refl)
   where
     fallen : life.Phase → RunMoment
     fallen p = record (next s (core_events.Die a) Nothing) { core = died_in s.core a p }
@@ -406,6 +416,6 @@ deaths s w journal a fate r t doomed makes = subst (λ p. LeadsQuietly w (fallen
     server : IsTrue (is_server a)
     server = makes.can.can.server
 
-    go : (loses : Bool) → fate.loses ≡ loses → LeadsQuietly w (left_with s w journal a fate t doomed server (if fate.loses then lost a s.core.flights else left_behind a s.core.flights))
-    go true e = subst (λ b. LeadsQuietly w (left_with s w journal a fate t doomed server (if b then lost a s.core.flights else left_behind a s.core.flights))) (sym e) (goes_with s w journal a fate t doomed server)
-    go false e = subst (λ b. LeadsQuietly w (left_with s w journal a fate t doomed server (if b then lost a s.core.flights else left_behind a s.core.flights))) (sym e) (stays_behind s w journal a fate t doomed server)
+    go : (loses : Bool) → fate.loses ≡ loses → LeadsQuietly w (left_with s w journal a fate t doomed server (if fate.loses then lost a s.core.flights else left_behind a s.core.flights)) journal
+    go true e = subst (λ b. LeadsQuietly w (left_with s w journal a fate t doomed server (if b then lost a s.core.flights else left_behind a s.core.flights)) journal) (sym e) (goes_with s w journal a fate t doomed server)
+    go false e = subst (λ b. LeadsQuietly w (left_with s w journal a fate t doomed server (if b then lost a s.core.flights else left_behind a s.core.flights)) journal) (sym e) (stays_behind s w journal a fate t doomed server)

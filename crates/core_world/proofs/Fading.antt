@@ -10,6 +10,8 @@ use Rattle.core_definitions.specs.Flights.{Flights, left_behind, lost}
 use Rattle.sector_world.specs.World.{World, Dead, Flight, ByteFlight}
 use Rattle.sector_world.specs.Steps.{Event, Run, after, stays, goes}
 use Rattle.sector_world.specs.Steps.Event.{Fade, FadeBytes}
+use Rattle.core_world.specs.Quiet.{AllQuiet}
+use Rattle.core_world.proofs.Quiet.{quiet_both}
 
 -- ---- one kind of writes, by who has them in flight
 
@@ -84,6 +86,7 @@ pub record FadesAt (a s : ℕ) (w : World) : Type 0 where
   pub world : World
   pub run : Run w events world
   pub fades : Fades a w world
+  pub quiet : (segments : ℕ) → AllQuiet segments w events
   pub none : HasNone own a world.flight s
   pub none_bytes : HasNone own_bytes a world.byte_flight s
 
@@ -93,6 +96,7 @@ record FadesOne (a s : ℕ) (w : World) : Type 0 where
   world : World
   run : Run w events world
   fades : Fades a w world
+  quiet : (segments : ℕ) → AllQuiet segments w events
   none : HasNone own a world.flight s
 
 apart : (n m : ℕ) → nat_eq n m ≡ false → n ≡ m → ⊥
@@ -107,12 +111,13 @@ flight_fades a s w dead = go (w.flight s) refl
       world = after w (Fade s f);
       run = goes (record { there = e; late = inr (ap w.phase (eqb-true f.by a t) ∙ dead) }) stays;
       fades = record { same = refl; flights = less_put own a w.flight s f e (eqb-true f.by a t); bytes = λ x. inl refl };
+      quiet = λ segments. (tt, tt);
       none = none_put own a w.flight s;
     }
-    by_test f e false t = record { events = []; world = w; run = stays; fades = fades_none a w; none = λ g i own_is. apart f.by a t (ap own (same_some (w.flight s) f g e i) ∙ own_is) }
+    by_test f e false t = record { events = []; world = w; run = stays; fades = fades_none a w; quiet = λ segments. tt; none = λ g i own_is. apart f.by a t (ap own (same_some (w.flight s) f g e i) ∙ own_is) }
 
     go : (o : Option Flight) → w.flight s ≡ o → FadesOne a s w
-    go None e = record { events = []; world = w; run = stays; fades = fades_none a w; none = λ g i own_is. none_some (w.flight s) g e i }
+    go None e = record { events = []; world = w; run = stays; fades = fades_none a w; quiet = λ segments. tt; none = λ g i own_is. none_some (w.flight s) g e i }
     go (Some f) e = by_test f e (nat_eq f.by a) refl
 
 sector_fades : (a s : ℕ) (w : World) → w.phase a ≡ Dead → FadesAt a s w
@@ -125,7 +130,7 @@ sector_fades a s w dead = go (x.world.byte_flight s) refl
     fallen = still_dead a w x.world x.fades dead
 
     left : HasNone own_bytes a x.world.byte_flight s → FadesAt a s w
-    left none = record { events = x.events; world = x.world; run = x.run; fades = x.fades; none = x.none; none_bytes = none }
+    left none = record { events = x.events; world = x.world; run = x.run; fades = x.fades; quiet = x.quiet; none = x.none; none_bytes = none }
 
     by_test : (f : ByteFlight) → x.world.byte_flight s ≡ Some f → (b : Bool) → nat_eq f.by a ≡ b → FadesAt a s w
     by_test f e true t = record {
@@ -134,6 +139,7 @@ sector_fades a s w dead = go (x.world.byte_flight s) refl
       run = joined w x.world (after x.world (FadeBytes s f)) x.events (FadeBytes s f ∷ []) x.run (goes (record { there = e; late = inr (ap x.world.phase (eqb-true f.by a t) ∙ fallen) }) stays);
       fades = fades_on a w x.world (after x.world (FadeBytes s f)) x.fades
           (record { same = refl; flights = λ i. inl refl; bytes = less_put own_bytes a x.world.byte_flight s f e (eqb-true f.by a t) });
+      quiet = λ segments. quiet_both segments w x.world x.events (FadeBytes s f ∷ []) x.run (x.quiet segments) (tt, tt);
       none = x.none;
       none_bytes = none_put own_bytes a x.world.byte_flight s;
     }
@@ -150,11 +156,12 @@ pub record FadesAll (a : ℕ) (sectors : List ℕ) (w : World) : Type 0 where
   pub world : World
   pub run : Run w events world
   pub fades : Fades a w world
+  pub quiet : (segments : ℕ) → AllQuiet segments w events
   pub none : (s : ℕ) → Among s sectors → HasNone own a world.flight s
   pub none_bytes : (s : ℕ) → Among s sectors → HasNone own_bytes a world.byte_flight s
 
 pub all_fade : (a : ℕ) (sectors : List ℕ) (w : World) → w.phase a ≡ Dead → FadesAll a sectors w
-all_fade a [] w dead = record { events = []; world = w; run = stays; fades = fades_none a w; none = λ s i. absurd i; none_bytes = λ s i. absurd i }
+all_fade a [] w dead = record { events = []; world = w; run = stays; fades = fades_none a w; quiet = λ segments. tt; none = λ s i. absurd i; none_bytes = λ s i. absurd i }
 all_fade a (s ∷ sectors) w dead =
     let x = sector_fades a s w dead in
     let y = all_fade a sectors x.world (still_dead a w x.world x.fades dead) in
@@ -163,6 +170,7 @@ all_fade a (s ∷ sectors) w dead =
       world = y.world;
       run = joined w x.world y.world x.events y.events x.run y.run;
       fades = fades_on a w x.world y.world x.fades y.fades;
+      quiet = λ segments. quiet_both segments w x.world x.events y.events x.run (x.quiet segments) (y.quiet segments);
       none = λ t i. here_or (HasNone own a y.world.flight) s t sectors i (none_stays own a x.world.flight y.world.flight s x.none (y.fades.flights s)) y.none;
       none_bytes = λ t i. here_or (HasNone own_bytes a y.world.byte_flight) s t sectors i (none_stays own_bytes a x.world.byte_flight y.world.byte_flight s x.none_bytes (y.fades.bytes s)) y.none_bytes;
     }

@@ -109,7 +109,7 @@ module _ (setting : Setting) (disk : Sectors) (logged of_files : ℕ → Bool) (
     marked = λ a s. tt;
     flying = λ e. record { flight = λ s f i. absurd (cc); bytes = λ s f i. absurd (cc); shown = λ one i. absurd (contains_in [] one i) };
     disk = λ s log. stands s;
-    rescues = record { under_way = λ by r who i. absurd (cc); known = λ r i. absurd (cc) };
+    rescues = λ e. record { under_way = λ by r who i. absurd (cc); known = λ r i. absurd (cc) };
     logged = λ a i. le_refl 0;
   }
 
@@ -128,4 +128,4 @@ first_good disk logged of_files home = good_step (start SERVERS disk logged of_f
     off_dead e = cc
 
 pub stays_good : LeadsStayGood
-stays_good w v good leads = good_run w leads.events leads.world leads.run good
+stays_good w v journal good leads = good_run w leads.events leads.world leads.run good

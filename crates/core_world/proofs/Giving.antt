@@ -244,7 +244,7 @@ module _ (c : Core) (disk : Sectors) (w : World) (a : ℕ) (lock : LockId) (t : 
     marked = marked;
     flying = t.flying;
     disk = t.disk;
-    rescues = rescues_alike (put c.servers a new) c.servers given_alike (after w (Give a lock)) t.rescues;
+    rescues = λ e. rescues_alike (put c.servers a new) c.servers given_alike (after w (Give a lock)) c.flights (t.rescues e);
     logged = logged_alike (put c.servers a new) c.servers given_alike (after w (Give a lock)) t.logged;
   }
     where
@@ -351,13 +351,12 @@ gives s w journal a lock r t g fresh makes = go (asked_for s.core.locks a lock) 
     given_over : Option AskedFor → RunMoment
     given_over o = record (next s (core_events.Give a lock) Nothing) { core = given_for s.core a lock o }
 
-    released_leads : LeadsQuietly w (given_over (Some Release))
+    released_leads : LeadsQuietly w (given_over (Some Release)) journal
     released_leads = record {
       leads = record {
         events = Give a lock ∷ [];
         world = after w (Give a lock);
         run = goes guard stays;
-        journal = journal;
         is = record {
           tied = give_keeps s.core s.disk w a lock t.tied are inside sorted;
           journals = journals_alike (put s.core.servers a (dropping s.core a lock)) s.core.servers (given_alike s.core s.disk w a lock t.tied are inside sorted) (after w (Give a lock)) s.core.now s.core.flights s.disk journal t.journals;
@@ -365,22 +364,23 @@ gives s w journal a lock r t g fresh makes = go (asked_for s.core.locks a lock) 
         };
       };
       story = record { servers = refl; opening = refl; logged = refl; first = refl; home = refl; history = refl };
+      quiet = (tt, tt);
     }
 
-    lowered_leads : held s.core.locks a lock ≡ Some Sole → LeadsQuietly w (given_over (Some Downgrade))
+    lowered_leads : held s.core.locks a lock ≡ Some Sole → LeadsQuietly w (given_over (Some Downgrade)) journal
     lowered_leads sole = record {
       leads = record {
         events = Lower a lock ∷ [];
         world = after w (Lower a lock);
         run = goes (record { give = guard; alone = t.tied.locks.holds a lock ∙ sole }) stays;
-        journal = journal;
         is = record { tied = lower_keeps s.core s.disk w a lock t.tied are inside sorted sole; journals = t.journals; readings = t.readings };
       };
       story = record { servers = refl; opening = refl; logged = refl; first = refl; home = refl; history = refl };
+      quiet = (tt, tt);
     }
 
-    go : (asked : Option AskedFor) → asked_for s.core.locks a lock ≡ asked → LeadsQuietly w (given_over (asked_for s.core.locks a lock))
+    go : (asked : Option AskedFor) → asked_for s.core.locks a lock ≡ asked → LeadsQuietly w (given_over (asked_for s.core.locks a lock)) journal
     go None e = absurd (false≢true (sym (ap is_some e) ∙ can.asked))
-    go (Some Release) e = subst (λ o. LeadsQuietly w (given_over o)) (sym e) released_leads
+    go (Some Release) e = subst (λ o. LeadsQuietly w (given_over o) journal) (sym e) released_leads
     go (Some Downgrade) e =
-        subst (λ o. LeadsQuietly w (given_over o)) (sym e) (lowered_leads (asked_sole (held s.core.locks a lock) (is_wished_by_other s.core.locks a lock Shared) (is_wished_by_other s.core.locks a lock Sole) e))
+        subst (λ o. LeadsQuietly w (given_over o) journal) (sym e) (lowered_leads (asked_sole (held s.core.locks a lock) (is_wished_by_other s.core.locks a lock Shared) (is_wished_by_other s.core.locks a lock Sole) e))

@@ -1,3 +1,4 @@
+pub mod Quiet
 pub mod Same
 pub mod Tables
 pub mod Cached

@@ -82,7 +82,7 @@ module _ (c : Core) (disk : Sectors) (w : World) (a : ℕ) (t : AreTied c disk w
     marked = marked_alike (put c.servers a new) c.servers alike (after w (Renew a)) (put_as (λ x. x.cache) c.servers a new refl) t.marked;
     flying = t.flying;
     disk = t.disk;
-    rescues = rescues_alike (put c.servers a new) c.servers alike (after w (Renew a)) t.rescues;
+    rescues = λ e. rescues_alike (put c.servers a new) c.servers alike (after w (Renew a)) c.flights (t.rescues e);
     logged = logged_alike (put c.servers a new) c.servers alike (after w (Renew a)) t.logged;
   }
 
@@ -102,7 +102,6 @@ renews s w journal a r t makes = record {
     events = Renew a ∷ [];
     world = after w (Renew a);
     run = goes (renew_guard s.core s.disk w a t.tied server m can) stays;
-    journal = journal;
     is = record {
       tied = renew_keeps s.core s.disk w a t.tied server m;
       journals = journals_alike (put s.core.servers a (renewing s.core a)) s.core.servers (renewing_alike s.core a) (after w (Renew a)) s.core.now s.core.flights s.disk journal t.journals;
@@ -110,6 +109,7 @@ renews s w journal a r t makes = record {
     };
   };
   story = record { servers = refl; opening = refl; logged = refl; first = refl; home = refl; history = refl };
+  quiet = (tt, tt);
 }
   where
     can : CanRenew s.core a
@@ -210,7 +210,7 @@ module _ (c : Core) (disk : Sectors) (w : World) (t : AreTied c disk w) (off : (
     marked = marked_alike flushed c.servers so ticked_world (flushed_as c (c.now + 1) (λ x. x.cache) (λ x. refl)) t.marked;
     flying = λ e. flies (t.flying e);
     disk = t.disk;
-    rescues = rescues_alike flushed c.servers so ticked_world t.rescues;
+    rescues = λ e. rescues_alike flushed c.servers so ticked_world c.flights (t.rescues e);
     logged = logged_alike flushed c.servers so ticked_world t.logged;
   }
 
@@ -232,7 +232,6 @@ ticks hosts s w journal r t makes = record {
     events = Tick ∷ Renew host_party ∷ [];
     world = after (after w Tick) (Renew host_party);
     run = goes tt (goes (tick_guard s.core s.disk w t.tied off m) stays);
-    journal = journal;
     is = record {
       tied = tick_keeps s.core s.disk w t.tied off m;
       journals = journals_alike (flushed_at s.core (s.core.now + 1)) s.core.servers same (after (after w Tick) (Renew host_party)) (s.core.now + 1) s.core.flights s.disk journal
@@ -241,6 +240,7 @@ ticks hosts s w journal r t makes = record {
     };
   };
   story = record { servers = refl; opening = refl; logged = refl; first = refl; home = refl; history = refl };
+  quiet = (tt, (tt, tt));
 }
   where
     m : lease_to s.core.setting (s.core.now + 1) ≡ s.core.now + 1 + LEASE_TICKS

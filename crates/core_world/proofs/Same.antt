@@ -1,11 +1,14 @@
 -- Ties go on where what they are of is the same.
-use Rattle.std.proofs.Common.{◌≡◌, ◌⊎◌, ◌&&◌, ◌||◌, ◌==◌, ℕ, refl, sym, ap, ◌∙◌, subst, IsTrue}
+use Rattle.std.proofs.Common.{◌≡◌, ◌⊎◌, ◌&&◌, ◌||◌, ◌==◌, ℕ, Bool, false, refl, sym, ap, ◌∙◌, subst, inl, inr, ⊎_elim, IsTrue}
+use Rattle.std.proofs.lemmas.Bool.{false≢true}
+use Rattle.std.specs.List.{Contains}
 use Rattle.frang_base.specs.Functions.{put}
 use Rattle.frang_base.proofs.Basics.{at_put}
 use Rattle.sector_bytes.specs.SectorMaps.{value_at}
 use Rattle.sector_bytes.specs.Sectors.{Sectors}
 use Rattle.core_definitions.specs.Flights as core
 use Rattle.core_definitions.specs.LineGuards.{is_server}
+use Rattle.core_definitions.specs.Recoveries.{Recovery}
 use Rattle.core_definitions.specs.Rings.{is_all_reached}
 use Rattle.core_definitions.specs.Scripts.{host_party}
 use Rattle.core_definitions.specs.Servers.{Server, is_up}
@@ -51,9 +54,9 @@ module _ (next servers : ℕ → Server) (alike : AreAlike next servers) (w : Wo
   works_alike : (by : ℕ) → IsTrue ((is_server by && is_up (next by).phase) || by == host_party) → IsTrue ((is_server by && is_up (servers by).phase) || by == host_party)
   works_alike by who = subst (λ p. IsTrue ((is_server by && is_up p) || by == host_party)) (alike.phase by) who
 
-  pub rescues_alike : AreRescues servers w → AreRescues next w
-  rescues_alike g = record {
-    under_way = λ by r who e. subst (λ f. IsRescueOf by r w.rescue ⊎ IsStuck f r) (sym (alike.failed by)) (g.under_way by r (works_alike by who) (sym (alike.recovery by) ∙ e));
+  pub rescues_alike : (flights : core.Flights) → AreRescues servers flights w → AreRescues next flights w
+  rescues_alike flights g = record {
+    under_way = λ by r who e. subst (λ f. IsRescueOf by r w.rescue ⊎ IsStuck by flights f r) (sym (alike.failed by)) (g.under_way by r (works_alike by who) (sym (alike.recovery by) ∙ e));
     known = λ r e. let k = g.known r e in (k.0, alike.recovery r.by ∙ k.1, k.2);
   }
 
@@ -72,3 +75,48 @@ module _ (next servers : ℕ → Server) (alike : AreAlike next servers) (w : Wo
   marked_alike cache g b s =
       subst (λ k. IsMarkedAs (next b).ring.reached (w.acked b) (value_at k s) (w.slot b s) (w.page b s)) (sym (cache b))
       (subst (λ r. IsMarkedAs r.reached (w.acked b) (value_at (servers b).cache s) (w.slot b s) (w.page b s)) (sym (alike.ring b)) (g b s))
+
+-- ---- fewer writes in flight
+
+-- each of these is of a server and a sector of one of those
+abbrev pub AreOfThose : core.Flights → core.Flights → Type 0
+AreOfThose these those = (one : ℕ × core.Flight) → Contains these one → (old : ℕ × core.Flight) × Contains those old × (old.1.server ≡ one.1.server) × (old.1.sector ≡ one.1.sector)
+
+-- so all of these are among those
+pub among_those : (these those : core.Flights) → ((one : ℕ × core.Flight) → Contains these one → Contains those one) → AreOfThose these those
+among_those these those among one i = (one, among one i, refl, refl)
+
+pub stuck_on : (by : ℕ) (these those : core.Flights) (failed : Bool) (recovery : Recovery) → AreOfThose these those → IsStuck by those failed recovery → IsStuck by these failed recovery
+stuck_on by these those failed recovery less z = record {
+  has_failed = z.has_failed;
+  sector = z.sector;
+  block = z.block;
+  looked = z.looked;
+  unwritten = z.unwritten;
+  unsent = λ one i of at. let o = less one i in z.unsent o.0 o.1 (o.2 ∙ of) (o.3 ∙ at);
+}
+
+pub rescues_on : (servers : ℕ → Server) (these those : core.Flights) (w : World) → AreOfThose these those → AreRescues servers those w → AreRescues servers these w
+rescues_on servers these those w less g = record {
+  under_way = λ by recovery who e. ⊎_elim (λ q. inl q) (λ z. inr (stuck_on by these those (servers by).failed recovery less z)) (g.under_way by recovery who e);
+  known = g.known;
+}
+
+-- ---- more writes in flight, of a server no call of which failed
+
+pub rescues_more : (servers : ℕ → Server) (these those : core.Flights) (w : World) (a : ℕ) → (servers a).failed ≡ false →
+    ((one : ℕ × core.Flight) → Contains these one → Contains those one ⊎ (one.1.server ≡ a)) → AreRescues servers those w → AreRescues servers these w
+rescues_more servers these those w a well more g = record {
+  under_way = λ by recovery who e. ⊎_elim (λ q. inl q) (λ z. inr (still by recovery z)) (g.under_way by recovery who e);
+  known = g.known;
+}
+  where
+    still : (by : ℕ) (recovery : Recovery) → IsStuck by those (servers by).failed recovery → IsStuck by these (servers by).failed recovery
+    still by recovery z = record {
+      has_failed = z.has_failed;
+      sector = z.sector;
+      block = z.block;
+      looked = z.looked;
+      unwritten = z.unwritten;
+      unsent = λ one i of at. ⊎_elim (λ old. z.unsent one old of at) (λ own. false≢true (sym well ∙ ap (λ n. (servers n).failed) (sym own ∙ of) ∙ z.has_failed)) (more one i);
+    }

@@ -19,6 +19,7 @@ use Rattle.sector_world.specs.Kinds.{Good}
 use Rattle.sector_world.specs.Steps as sectors
 use Rattle.sector_world.specs.World.{World, start}
 use Rattle.core_world.specs.Journals.{Journal}
+use Rattle.core_world.specs.Quiet.{AllQuiet}
 use Rattle.core_world.specs.Steps.{IsReached, IsWorldOf, Leads}
 
 -- ---- the first moment
@@ -41,7 +42,7 @@ FirstMomentsAreGood = (disk : Sectors) (logged of_files : ℕ → Bool) (home : 
 
 -- so does what a step leads to
 abbrev pub LeadsStayGood : Type 0
-LeadsStayGood = (w : World) (v : RunMoment) → Good w → (leads : Leads w v) → Good leads.world
+LeadsStayGood = (w : World) (v : RunMoment) (journal : ℕ → Journal) → Good w → (leads : Leads w v journal) → Good leads.world
 
 -- the history is the same, and what it began with
 pub record IsSameStory (w u : World) : Type 0 where
@@ -52,15 +53,21 @@ pub record IsSameStory (w u : World) : Type 0 where
   pub home : u.home ≡ w.home
   pub history : u.history ≡ w.history
 
--- events that lead to the next moment, and of which there is nothing to tell
-pub record LeadsQuietly (w : World) (v : RunMoment) : Type 0 where
-  pub leads : Leads w v
+-- events that lead to the next moment with these journals, and of which there is nothing to tell
+pub record LeadsUntold (w : World) (v : RunMoment) (journal : ℕ → Journal) : Type 0 where
+  pub leads : Leads w v journal
   pub story : IsSameStory w leads.world
+
+-- quiet ones
+pub record LeadsQuietly (w : World) (v : RunMoment) (journal : ℕ → Journal) : Type 0 where
+  pub leads : Leads w v journal
+  pub story : IsSameStory w leads.world
+  pub quiet : AllQuiet v.core.setting.segments w leads.events
 
 -- a Renew leads quietly on
 abbrev pub RenewsAreEvents : Type 0
 RenewsAreEvents =
-    (s : RunMoment) (w : World) (journal : ℕ → Journal) (a : ℕ) → IsReached s → IsWorldOf s w journal → Makes s (Renew a) Nothing → LeadsQuietly w (next s (Renew a) Nothing)
+    (s : RunMoment) (w : World) (journal : ℕ → Journal) (a : ℕ) → IsReached s → IsWorldOf s w journal → Makes s (Renew a) Nothing → LeadsQuietly w (next s (Renew a) Nothing) journal
 
 -- the host is never mounted
 abbrev pub HostsAreOff : Type 0
@@ -69,13 +76,13 @@ HostsAreOff = (s : RunMoment) → IsReached s → (s.core.servers host_party).ph
 -- so does a Tick
 abbrev pub TicksAreEvents : Type 0
 TicksAreEvents =
-    (s : RunMoment) (w : World) (journal : ℕ → Journal) → IsReached s → IsWorldOf s w journal → Makes s Tick Nothing → LeadsQuietly w (next s Tick Nothing)
+    (s : RunMoment) (w : World) (journal : ℕ → Journal) → IsReached s → IsWorldOf s w journal → Makes s Tick Nothing → LeadsQuietly w (next s Tick Nothing) journal
 
 -- an Ask, whether the lock is granted or the wish is noted
 abbrev pub AsksAreEvents : Type 0
 AsksAreEvents =
     (s : RunMoment) (w : World) (journal : ℕ → Journal) (a : ℕ) (lock : LockId) (mode : Mode) → IsReached s → IsWorldOf s w journal → Makes s (Ask a lock mode) Nothing →
-    LeadsQuietly w (next s (Ask a lock mode) Nothing)
+    LeadsQuietly w (next s (Ask a lock mode) Nothing) journal
 
 -- what is in time of a server is of its present mount
 abbrev pub OwnAreFresh : Core → ℕ → Type 0
@@ -85,10 +92,10 @@ OwnAreFresh c a = (one : ℕ × Flight) → Contains c.flights one → one.1.ser
 abbrev pub GivesAreEvents : Type 0
 GivesAreEvents =
     (s : RunMoment) (w : World) (journal : ℕ → Journal) (a : ℕ) (lock : LockId) → IsReached s → IsWorldOf s w journal → Good w → OwnAreFresh s.core a →
-    Makes s (Give a lock) Nothing → LeadsQuietly w (next s (Give a lock) Nothing)
+    Makes s (Give a lock) Nothing → LeadsQuietly w (next s (Give a lock) Nothing) journal
 
 -- a Die, whether what is in flight goes with the server or not
 abbrev pub DeathsAreEvents : Type 0
 DeathsAreEvents =
     (s : RunMoment) (w : World) (journal : ℕ → Journal) (a : ℕ) (fate : Fate) → IsReached s → IsWorldOf s w journal → (s.core.servers a).phase ≡ Doomed fate →
-    Makes s (Die a) Nothing → LeadsQuietly w (next s (Die a) Nothing)
+    Makes s (Die a) Nothing → LeadsQuietly w (next s (Die a) Nothing) journal

@@ -2,6 +2,7 @@
 -- kept beside the core: what the log was as its server mounted, what it is since, and where in it each operation ends.
 use Rattle.std.specs.Prelude.{◌≡◌, ◌≤◌, ◌<◌, ◌+◌, ◌%◌, ◌↔◌, ◌⊎◌, ℕ, Bool, not, nat_le, Some, List, [], ◌∷◌, ◌++◌, map, filter, reverse, IsTrue}
 use Rattle.std.specs.List.{Contains}
+use Rattle.frang_base.specs.Functions.{put}
 use Rattle.frang_base.specs.declared.change.Redo.{Redo}
 use Rattle.frang_base.specs.declared.limits.TheConstants.{LOG_IN_FLIGHT_MAX, LOG_SECTORS}
 use Rattle.sector_bytes.specs.Blocks.{Block, version_of}
@@ -10,7 +11,7 @@ use Rattle.disk_definitions.specs.declared.log_sector.LogSector.{LogSector}
 use Rattle.disk_definitions.specs.LogSectors.{log_sector_bytes}
 use Rattle.disk_definitions.specs.Logs.{Slots, is_sealed, log_end, log_records}
 use Rattle.disk_definitions.specs.Replay.{slots_of}
-use Rattle.ring_definitions.specs.RingRuns.{LogState, Placed}
+use Rattle.ring_definitions.specs.RingRuns.{LogEvent, LogState, Placed, after_log_event, log_at}
 use Rattle.ring_definitions.specs.RingSteps.{IsGoodLog}
 use Rattle.ring_definitions.specs.Rings.{Ring, last}
 use Rattle.core_definitions.specs.Flights as core
@@ -81,6 +82,18 @@ pub record Journal : Type 0 where
   pub log : LogState
   pub ends : ℕ → ℕ
 
+-- behind a mount that read these slots nothing is in the ring, and each operation ends where the log ends
+abbrev pub journal_at : Slots → Journal
+journal_at slots = record { before = slots; log = log_at slots; ends = λ n. log_end slots }
+
+-- behind what happens to a ring and its log, where operations end as before
+abbrev pub with_event : Journal → LogEvent → Journal
+with_event j event = record j { log = after_log_event j.log event }
+
+-- the journals where this happens to that of a server
+abbrev pub with_event_of : (ℕ → Journal) → ℕ → LogEvent → ℕ → Journal
+with_event_of journal a event = put journal a (with_event (journal a) event)
+
 -- the block seals this slot, behind the end of these slots
 abbrev pub IsSeal : Slots → ℕ → Block → Type 0
 IsSeal slots slot block = (n : ℕ) × (log_end slots < n) × (n ≤ log_end slots + LOG_IN_FLIGHT_MAX) × (n % LOG_SECTORS ≡ slot) × (block ≡ seal_block n)
@@ -106,10 +119,11 @@ records_above floor placed = map (λ p. p.redo) (filter (is_above floor) placed)
 abbrev pub records_up_to : ℕ → List Placed → List Redo
 records_up_to floor placed = map (λ p. p.redo) (filter (λ p. nat_le p.redo.op.0 floor) placed)
 
--- the records of its log are those of the theorem on sectors: those that are given up, and the others but for the empty ones; and those of earlier mounts and those
--- that are given up are in place
+-- the records of its log are those of the theorem on sectors: those that are given up, and the others but for the empty ones; the operation of each ends at its last number; and those of
+-- earlier mounts and those that are given up are in place
 abbrev pub AreRecords : Journal → SectorLog → Type 0
 AreRecords j log = record {
+  ends_at_last : (p : Placed) → Contains j.log.placed p → j.ends p.redo.op.0 ≡ p.last;
   given_up : (p : Placed) → Contains j.log.placed p → (p.redo.op.0 ≤ log.floor) ↔ (p.first ≤ j.log.ring.given_up);
   placed : records_above log.floor j.log.placed ≡ reverse (changing log.records);
   old : (s : ℕ) → AllInPlace (log_records j.before ++ records_up_to log.floor j.log.placed) s (log.versions s);

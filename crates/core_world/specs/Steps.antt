@@ -20,12 +20,11 @@ pub record IsWorldOf (s : RunMoment) (w : World) (journal : ℕ → Journal) : T
   pub journals : AreJournals s.core.servers s.core.now s.core.flights s.disk w journal
   pub readings : AreReadings s.core.setting.segments s.core.servers w
 
--- from this world events that may happen lead to one of the moment
-pub record Leads (w : World) (v : RunMoment) : Type 0 where
+-- from this world events that may happen lead to one of the moment, with these journals
+pub record Leads (w : World) (v : RunMoment) (journal : ℕ → Journal) : Type 0 where
   pub events : List Event
   pub world : World
   pub run : sectors.Run w events world
-  pub journal : ℕ → Journal
   pub is : IsWorldOf v world journal
 
 -- a moment of a run of a script that was read, over the logs of a disk
@@ -46,7 +45,8 @@ Telling = List Said → World → Type 0
 
 -- and it is told on
 pub record LeadsAsTold (Tells : Telling) (w : World) (v : RunMoment) : Type 0 where
-  pub leads : Leads w v
+  pub journal : ℕ → Journal
+  pub leads : Leads w v journal
   pub told : Tells (saids_of v.record_) leads.world
 
 -- Each step of the core is a run of events. It is only stated so far, but for what `Events` has of it

@@ -185,18 +185,20 @@ pub record IsRescueOf (by : ℕ) (recovery : Recovery) (rescue : Option Rescue) 
 abbrev pub is_working : (ℕ → Server) → ℕ → Bool
 is_working servers a = (is_server a && life.is_up (servers a).phase) || a == host_party
 
--- it can't end: a put of it failed, and no write of its server is issued any more
-pub record IsStuck (failed : Bool) (recovery : Recovery) : Type 0 where
+-- it can't end: a put of it failed, its server has nothing of that sector in flight, and no write of its server is issued any more
+pub record IsStuck (by : ℕ) (flights : core.Flights) (failed : Bool) (recovery : Recovery) : Type 0 where
   pub has_failed : failed ≡ true
   pub sector : ℕ
   pub block : Block
   pub looked : value_at recovery.looked sector ≡ Some (Some block)
   pub unwritten : is_written recovery sector ≡ false
+  pub unsent : (one : ℕ × core.Flight) → Contains flights one → one.1.server ≡ by → one.1.sector ≡ sector → ⊥
 
 -- a recovery under way is the world's, or can't end; and the world's is one of its server
-abbrev pub AreRescues : (ℕ → Server) → World → Type 0
-AreRescues servers w = record {
-  under_way : (by : ℕ) (recovery : Recovery) → IsTrue (is_working servers by) → (servers by).recovery ≡ Some recovery → IsRescueOf by recovery w.rescue ⊎ IsStuck (servers by).failed recovery;
+abbrev pub AreRescues : (ℕ → Server) → core.Flights → World → Type 0
+AreRescues servers flights w = record {
+  under_way : (by : ℕ) (recovery : Recovery) → IsTrue (is_working servers by) → (servers by).recovery ≡ Some recovery →
+      IsRescueOf by recovery w.rescue ⊎ IsStuck by flights (servers by).failed recovery;
   known : (r : Rescue) → w.rescue ≡ Some r → (recovery : Recovery) × ((servers r.by).recovery ≡ Some recovery) × (recovery.dead ≡ r.dead);
 }
 
@@ -208,7 +210,7 @@ AreLogged servers w = (a : ℕ) → IsTrue (is_all_reached (servers a).ring) →
 
 -- ---- all of these
 
--- a halt empties the core's list of flights, and nothing happens after it
+-- a halt empties the core's list of flights, and nothing happens after it: of writes and of recoveries nothing is asked then
 abbrev pub AreTied : Core → Sectors → World → Type 0
 AreTied c disk w = record {
   lives : AreLives c.now c.servers w;
@@ -217,6 +219,6 @@ AreTied c disk w = record {
   marked : AreMarked c.servers w;
   flying : c.over ≡ false → AreFlying c.setting.segments c.now c.flights w;
   disk : IsOnDisk c.setting.segments disk w;
-  rescues : AreRescues c.servers w;
+  rescues : c.over ≡ false → AreRescues c.servers c.flights w;
   logged : AreLogged c.servers w;
 }

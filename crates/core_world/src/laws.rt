@@ -1,5 +1,6 @@
 // Events of the core as events of the world that is kept beside it. Each law is the contract of a public function with an empty body.
 ghost use Rattle.core_world.specs.Events.{AsksAreEvents, DeathsAreEvents, FirstMomentsAreGood, FirstMomentsAreWorlds, GivesAreEvents, HostsAreOff, LeadsStayGood, RenewsAreEvents, TicksAreEvents};
+ghost use Rattle.core_world.specs.Quiet.{QuietEventsLeaveLogs, QuietRunsGoOn};
 
 use core_laws::who_rests_has_nothing;
 use core_transcripts::{read_scripts_are_numbered, runs_have_their_faults};
@@ -12,7 +13,14 @@ pub fn first_moments_are_worlds()
     ensures stays { LeadsStayGood }
 {}
 
-/// A Renew of the core is Renew, which may happen and leads to a world of the next moment.
+/// A quiet event is no operation and clears nothing, what it issues lies in no log, and by it no log is known less; and one quiet run behind another is quiet. So what each such event
+/// keeps stands beside a world along the laws below.
+pub fn quiet_events_leave_logs()
+    ensures leave { QuietEventsLeaveLogs }
+    ensures on { QuietRunsGoOn }
+{}
+
+/// A Renew of the core is Renew, which may happen, is quiet, and leads to a world of the next moment with the same journals. So it is of each of the following.
 pub fn renews_are_events()
     ensures renew { RenewsAreEvents }
 {}

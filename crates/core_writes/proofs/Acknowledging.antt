@@ -18,7 +18,8 @@ use Rattle.sector_world.specs.Logged.{AbsentUnlessUp, Agrees}
 use Rattle.sector_world.specs.Steps.{Can, Event, after, changed, landed}
 use Rattle.sector_world.specs.Steps.Event.{Tick, Leave, Fail, Renew, Mount, Unmount, Take, Give, Lower, Do, Reach, Ack, Sync, Reclaim, Crash, Begin, Look, Finish, Fetch, Issue, Replay, Land, Fade, Break, BreakNew, FetchBytes, Clear, IssueBytes, LandBytes, FadeBytes, BreakBytes, BreakBytesNew, Settle}
 use Rattle.sector_world.specs.World.{World, Phase, Off, Up, Dead, Slot, Absent, Clean, Dirty, Flight, Rescue, cover}
-use Rattle.core_writes.specs.Acknowledged.{AcknowledgedFirst, AcknowledgedStay, KnowsMore}
+use Rattle.core_world.specs.Beside.{KnowsMore}
+use Rattle.core_writes.specs.Acknowledged.{AcknowledgedFirst, AcknowledgedStay}
 use Rattle.core_writes.specs.Arrivals.{AreAcknowledged}
 
 pub acknowledged_first : AcknowledgedFirst

@@ -195,10 +195,10 @@ module _ (orderly : (x : World) → Good x → (event : Event) → Can x event �
       go false h = h
 
   module _ (after : RunMoment) (disk_is : written s.disk flight.sector flight.block ≡ after.disk) where
-    present_leads : AreAcknowledged w → record s.core { flights = without s.core.flights ticket; servers = servers_then } ≡ after.core → LeadsQuietly w after
+    present_leads : AreAcknowledged w → record s.core { flights = without s.core.flights ticket; servers = servers_then } ≡ after.core → LeadsQuietly w after journal
     present_leads acknowledged_ core_is = go (has_version w flight.sector) refl
       where
-        go : (v : Bool) → has_version w flight.sector ≡ v → LeadsQuietly w after
+        go : (v : Bool) → has_version w flight.sector ≡ v → LeadsQuietly w after journal
         go true v =
             slot_lands orderly s w journal t g going ticket flight.server flight.sector flight.stamp flight.block early high_now recovered_apart v (slot_there v) servers_then
             (put_alike s.core.servers flight.server server_then alike_then) (put_as (λ x. x.expiry) s.core.servers flight.server server_then expiry_then)
@@ -215,7 +215,7 @@ module _ (orderly : (x : World) → Good x → (event : Event) → Can x event �
             elsewhere_then (page_flies v) after core_is disk_is
 
     -- a dead server has nothing cached
-    dead_leads : w.phase flight.server ≡ Dead → record s.core { flights = without s.core.flights ticket } ≡ after.core → LeadsQuietly w after
+    dead_leads : w.phase flight.server ≡ Dead → record s.core { flights = without s.core.flights ticket } ≡ after.core → LeadsQuietly w after journal
     dead_leads dead core_is = go (has_version w flight.sector) refl
       where
         same : AreAlike s.core.servers s.core.servers
@@ -227,7 +227,7 @@ module _ (orderly : (x : World) → Good x → (event : Event) → Can x event �
         no_page : w.page flight.server flight.sector ≡ NoPage
         no_page = dead_page (w.phase flight.server) (w.page flight.server flight.sector) dead (g.bytes.not_up flight.server flight.sector)
 
-        go : (v : Bool) → has_version w flight.sector ≡ v → LeadsQuietly w after
+        go : (v : Bool) → has_version w flight.sector ≡ v → LeadsQuietly w after journal
         go true v =
             slot_lands orderly s w journal t g going ticket flight.server flight.sector flight.stamp flight.block early high_now recovered_apart v (slot_there v) s.core.servers same (λ b. refl)
             (subst (λ y. IsKeptAs true (cover w flight.sector) (s.core.servers flight.server).ring.reached (w.acked flight.server) (value_at (s.core.servers flight.server).cache flight.sector) y (w.page flight.server flight.sector))
@@ -274,6 +274,6 @@ arrivals orderly ends once stale s w journal ticket flight lock r t g acknowledg
     disk_is : written s.disk flight.sector flight.block ≡ moment.disk
     disk_is = sym (ap (disk_from s.disk Written) at)
 
-    go : (b : Bool) → flight.present ≡ b → LeadsQuietly w moment
+    go : (b : Bool) → flight.present ≡ b → LeadsQuietly w moment journal
     go true e = present_leads orderly ends once s w journal r t g m.can.going ticket flight lock at place early moment disk_is acknowledged_ (core_by true e)
     go false e = dead_leads orderly ends once s w journal r t g m.can.going ticket flight lock at place early moment disk_is (dead_since stale s w journal r t ticket flight at early e) (core_by false e)

@@ -35,13 +35,14 @@ use Rattle.sector_world.specs.Steps.Event.{Break, BreakNew, BreakBytes, BreakByt
 use Rattle.sector_world.specs.World.{World, Up, Flight, ByteFlight, Rescue, cover, has_version}
 use Rattle.core_world.specs.Events.{HostsAreOff, LeadsQuietly}
 use Rattle.core_world.specs.Journals.{AreJournals, AreReadings, Journal, sector_log}
+use Rattle.core_world.specs.Quiet.{AllQuiet}
 use Rattle.core_world.specs.Steps.{IsReached, IsWorldOf}
 use Rattle.core_world.specs.Ties.{AreTied, AreFlying, AreLives, AreRescues, IsCachedAs, is_log_sector, is_working, phase_of, expiry_at}
-use Rattle.core_world.proofs.Same.{AreAlike, journals_alike, logged_alike, marked_alike, put_as, readings_alike}
+use Rattle.core_world.proofs.Same.{AreAlike, journals_alike, logged_alike, marked_alike, put_as, readings_alike, stuck_on}
 use Rattle.core_writes.proofs.Arriving.{high_now, page_flies, page_there, recovered_apart, slot_flies, slot_there, world_early_now}
 use Rattle.core_writes.proofs.Journaling.{AreFewer, landed_log}
 use Rattle.core_writes.proofs.Landing.{bytes_on_disk, disk_same, on_disk, ordered, rises, whole}
-use Rattle.core_writes.proofs.Lists.{from_without}
+use Rattle.core_writes.proofs.Lists.{fewer_those, from_without}
 use Rattle.core_writes.specs.Failures.{FailuresAreEvents}
 
 -- who is up in the world is mounted
@@ -68,6 +69,11 @@ failed_still true servers a b e = e
 failed_still false servers a b e =
     at_put (λ (x : Server). x.failed ≡ true) servers a (failed_by (servers a)) b
     (λ i. ap (λ f. f || is_in_mount (servers a).phase) (ap (λ n. (servers n).failed) (sym i) ∙ e)) (λ n. e)
+
+-- it wasn't over before
+over_before : (host over : Bool) → (if host then true else over) ≡ false → over ≡ false
+over_before true over e = absurd (false≢true (sym e))
+over_before false over e = e
 
 -- who hasn't hadn't
 failed_not : (host : Bool) (servers : ℕ → Server) (a b : ℕ) → (failed_servers host servers a b).failed ≡ false → (servers b).failed ≡ false
@@ -119,13 +125,14 @@ module _ (s : RunMoment) (w : World) (journal : ℕ → Journal) (r : IsReached 
   works_then : (by : ℕ) → IsTrue (is_working servers_then by) → IsTrue (is_working s.core.servers by)
   works_then by who = subst (λ p. IsTrue ((is_server by && life.is_up p) || by == host_party)) (same_but (λ x. x.phase) (λ x. refl) host s.core.servers a by) who
 
-  rescues_then : AreRescues servers_then w
-  rescues_then = record {
+  rescues_then : AreRescues s.core.servers s.core.flights w → AreRescues servers_then (without s.core.flights ticket) w
+  rescues_then old = record {
     under_way = λ by recovery who e.
         ⊎_elim (λ q. inl q)
-        (λ q. inr (record { has_failed = failed_still host s.core.servers a by q.has_failed; sector = q.sector; block = q.block; looked = q.looked; unwritten = q.unwritten }))
-        (t.tied.rescues.under_way by recovery (works_then by who) (sym (same_but (λ x. x.recovery) (λ x. refl) host s.core.servers a by) ∙ e));
-    known = λ q e. let k = t.tied.rescues.known q e in (k.0, same_but (λ x. x.recovery) (λ x. refl) host s.core.servers a q.by ∙ k.1, k.2);
+        (λ z. let q = stuck_on by (without s.core.flights ticket) s.core.flights (s.core.servers by).failed recovery (fewer_those s.core.flights ticket) z in
+        inr (record { has_failed = failed_still host s.core.servers a by q.has_failed; sector = q.sector; block = q.block; looked = q.looked; unwritten = q.unwritten; unsent = q.unsent }))
+        (old.under_way by recovery (works_then by who) (sym (same_but (λ x. x.recovery) (λ x. refl) host s.core.servers a by) ∙ e));
+    known = λ q e. let k = old.known q e in (k.0, same_but (λ x. x.recovery) (λ x. refl) host s.core.servers a q.by ∙ k.1, k.2);
   }
 
   -- the servers then, but for the failure
@@ -146,7 +153,7 @@ module _ (s : RunMoment) (w : World) (journal : ℕ → Journal) (r : IsReached 
   abbrev core_then : Core
   core_then = record s.core { flights = without s.core.flights ticket; servers = servers_then; over = if host then true else s.core.over }
 
-  module _ (fl : ℕ → Option Flight) (bf : ℕ → Option ByteFlight) (d bs : ℕ → Block) (disk : Sectors) (events : List Event)
+  module _ (fl : ℕ → Option Flight) (bf : ℕ → Option ByteFlight) (d bs : ℕ → Block) (disk : Sectors) (events : List Event) (quiet : AllQuiet s.core.setting.segments w events)
       (run : Run w events (record w { flight = fl; byte_flight = bf; sick = put w.sick a true; disk = d; bytes = bs }))
       (flies : AreFlying s.core.setting.segments s.core.now (without s.core.flights ticket) (record w { flight = fl; byte_flight = bf }))
       (disk_is : (x : ℕ) → is_log_sector s.core.setting.segments x ≡ false → (if has_version w x then d x else bs x) ≡ disk x) (rising : (x : ℕ) → version_of (w.disk x) ≤ version_of (d x))
@@ -182,17 +189,16 @@ module _ (s : RunMoment) (w : World) (journal : ℕ → Journal) (r : IsReached 
       marked = marked_alike servers_mid s.core.servers alike_mid w caches_then t.tied.marked;
       flying = λ e. flies;
       disk = disk_is;
-      rescues = rescues_then;
+      rescues = λ e. rescues_then (t.tied.rescues (over_before host s.core.over e));
       logged = logged_alike servers_mid s.core.servers alike_mid w t.tied.logged;
     }
 
-    pub fails : (after : RunMoment) → core_then ≡ after.core → disk ≡ after.disk → LeadsQuietly w after
+    pub fails : (after : RunMoment) → core_then ≡ after.core → disk ≡ after.disk → LeadsQuietly w after journal
     fails after core_is at_disk = record {
       leads = record {
         events = events;
         world = u;
         run = run;
-        journal = journal;
         is = record {
           tied = subst (λ x. AreTied after.core x u) at_disk (subst (λ c. AreTied c disk u) core_is tied);
           journals = subst (λ x. AreJournals after.core.servers after.core.now after.core.flights x u journal) at_disk
@@ -201,6 +207,7 @@ module _ (s : RunMoment) (w : World) (journal : ℕ → Journal) (r : IsReached 
         };
       };
       story = record { servers = refl; opening = refl; logged = refl; first = refl; home = refl; history = refl };
+      quiet = subst (λ (c : Core). AllQuiet c.setting.segments w events) core_is quiet;
     }
 
 -- ---- the four events
@@ -246,17 +253,17 @@ module _ (orderly : (x : World) → Good x → (event : Event) → Can x event �
   abbrev byte_gone : ℕ → Option ByteFlight
   byte_gone = put w.byte_flight flight.sector None
 
-  breaks : has_version w flight.sector ≡ true → s.disk ≡ after.disk → LeadsQuietly w after
+  breaks : has_version w flight.sector ≡ true → s.disk ≡ after.disk → LeadsQuietly w after journal
   breaks v disk_is =
-      fails s w journal r t hosts ticket flight.server gone w.byte_flight w.disk w.bytes s.disk (Break flight.sector f ∷ [])
+      fails s w journal r t hosts ticket flight.server gone w.byte_flight w.disk w.bytes s.disk (Break flight.sector f ∷ []) (tt, tt)
       (subst (λ o. Run w (Break flight.sector f ∷ []) (record w { flight = gone; sick = put w.sick flight.server true; rescue = o })) (rescue_same v w.rescue refl)
       (goes (record { there = there v; early = world_early }) stays))
       (slot_flies orderly ends once s w journal r t g going ticket flight lock at place early v) t.tied.disk (λ x. le_refl (version_of (w.disk x))) (λ b who slot low. refl) (λ by recovery who has x e. e)
       after core_is disk_is
 
-  breaks_new : has_version w flight.sector ≡ true → written s.disk flight.sector flight.block ≡ after.disk → LeadsQuietly w after
+  breaks_new : has_version w flight.sector ≡ true → written s.disk flight.sector flight.block ≡ after.disk → LeadsQuietly w after journal
   breaks_new v disk_is =
-      fails s w journal r t hosts ticket flight.server gone w.byte_flight (put w.disk flight.sector flight.block) w.bytes (written s.disk flight.sector flight.block) (BreakNew flight.sector f ∷ [])
+      fails s w journal r t hosts ticket flight.server gone w.byte_flight (put w.disk flight.sector flight.block) w.bytes (written s.disk flight.sector flight.block) (BreakNew flight.sector f ∷ []) (tt, tt)
       (subst (λ o. Run w (BreakNew flight.sector f ∷ []) (record w { flight = gone; disk = put w.disk flight.sector flight.block; sick = put w.sick flight.server true; rescue = o })) (rescue_same v w.rescue refl)
       (goes (record { there = there v; early = world_early }) stays))
       (slot_flies orderly ends once s w journal r t g going ticket flight lock at place early v)
@@ -269,32 +276,32 @@ module _ (orderly : (x : World) → Good x → (event : Event) → Can x event �
       (whole orderly s w journal t g going ticket flight.server flight.sector flight.stamp flight.block early high apart v (there v) recovery.dead (apart by recovery who has))) (λ n. e))
       after core_is disk_is
 
-  breaks_bytes : has_version w flight.sector ≡ false → s.disk ≡ after.disk → LeadsQuietly w after
+  breaks_bytes : has_version w flight.sector ≡ false → s.disk ≡ after.disk → LeadsQuietly w after journal
   breaks_bytes v disk_is =
-      fails s w journal r t hosts ticket flight.server w.flight byte_gone w.disk w.bytes s.disk (BreakBytes flight.sector byte_f ∷ []) (goes (record { there = byte_there v; in_time = world_early }) stays)
+      fails s w journal r t hosts ticket flight.server w.flight byte_gone w.disk w.bytes s.disk (BreakBytes flight.sector byte_f ∷ []) (tt, tt) (goes (record { there = byte_there v; in_time = world_early }) stays)
       (page_flies orderly ends once s w journal r t g going ticket flight lock at place early v) t.tied.disk (λ x. le_refl (version_of (w.disk x))) (λ b who slot low. refl) (λ by recovery who has x e. e)
       after core_is disk_is
 
-  breaks_bytes_new : has_version w flight.sector ≡ false → written s.disk flight.sector flight.block ≡ after.disk → LeadsQuietly w after
+  breaks_bytes_new : has_version w flight.sector ≡ false → written s.disk flight.sector flight.block ≡ after.disk → LeadsQuietly w after journal
   breaks_bytes_new v disk_is =
-      fails s w journal r t hosts ticket flight.server w.flight byte_gone w.disk (put w.bytes flight.sector flight.block) (written s.disk flight.sector flight.block) (BreakBytesNew flight.sector byte_f ∷ [])
+      fails s w journal r t hosts ticket flight.server w.flight byte_gone w.disk (put w.bytes flight.sector flight.block) (written s.disk flight.sector flight.block) (BreakBytesNew flight.sector byte_f ∷ []) (tt, tt)
       (goes (record { there = byte_there v; in_time = world_early }) stays)
       (page_flies orderly ends once s w journal r t g going ticket flight lock at place early v)
       (bytes_on_disk orderly s w journal t g going ticket flight.server flight.sector flight.stamp flight.block early high apart v (byte_there v))
       (λ x. le_refl (version_of (w.disk x))) (λ b who slot low. disk_same s.disk flight.sector flight.block high b who slot low) (λ by recovery who has x e. e)
       after core_is disk_is
 
-  pub leaves_old : s.disk ≡ after.disk → LeadsQuietly w after
+  pub leaves_old : s.disk ≡ after.disk → LeadsQuietly w after journal
   leaves_old disk_is = go (has_version w flight.sector) refl
     where
-      go : (v : Bool) → has_version w flight.sector ≡ v → LeadsQuietly w after
+      go : (v : Bool) → has_version w flight.sector ≡ v → LeadsQuietly w after journal
       go true v = breaks v disk_is
       go false v = breaks_bytes v disk_is
 
-  pub leaves_new : written s.disk flight.sector flight.block ≡ after.disk → LeadsQuietly w after
+  pub leaves_new : written s.disk flight.sector flight.block ≡ after.disk → LeadsQuietly w after journal
   leaves_new disk_is = go (has_version w flight.sector) refl
     where
-      go : (v : Bool) → has_version w flight.sector ≡ v → LeadsQuietly w after
+      go : (v : Bool) → has_version w flight.sector ≡ v → LeadsQuietly w after journal
       go true v = breaks_new v disk_is
       go false v = breaks_bytes_new v disk_is
 
@@ -312,6 +319,6 @@ failures orderly ends once hosts s w journal ticket flight lock new r t g at pla
     core_is : (b : Bool) → core_then s w journal r t hosts ticket flight.server ≡ (next s (core_events.Arrive ticket) (PutFailed b)).core
     core_is b = called (flight.server == host_party) ∙ sym (ap (arrived_from s.core ticket (PutFailed b)) at)
 
-    go : (b : Bool) → Makes s (core_events.Arrive ticket) (PutFailed b) → LeadsQuietly w (next s (core_events.Arrive ticket) (PutFailed b))
+    go : (b : Bool) → Makes s (core_events.Arrive ticket) (PutFailed b) → LeadsQuietly w (next s (core_events.Arrive ticket) (PutFailed b)) journal
     go true n = leaves_new orderly ends once hosts s w journal r t g n.can.going ticket flight lock at place (early true n.hears) (next s (core_events.Arrive ticket) (PutFailed true)) (core_is true) (sym (ap (disk_from s.disk (PutFailed true)) at))
     go false n = leaves_old orderly ends once hosts s w journal r t g n.can.going ticket flight lock at place (early false n.hears) (next s (core_events.Arrive ticket) (PutFailed false)) (core_is false) (sym (ap (disk_from s.disk (PutFailed false)) at))

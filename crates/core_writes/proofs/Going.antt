@@ -28,9 +28,11 @@ use Rattle.sector_world.specs.Steps.{Event, Run, after, stays, goes}
 use Rattle.sector_world.specs.Steps.Event.{Fade, FadeBytes}
 use Rattle.core_world.specs.Events.{LeadsQuietly}
 use Rattle.core_world.specs.Journals.{AreJournals, AreReadings, Journal}
+use Rattle.core_world.proofs.Same.{rescues_on}
+use Rattle.core_world.specs.Quiet.{AllQuiet}
 use Rattle.core_world.specs.Steps.{IsReached, IsWorldOf}
 use Rattle.core_world.specs.Ties.{AreTied, AreFlying, IsFlying, IsShown, phase_of}
-use Rattle.core_writes.proofs.Lists.{at_sector, into_without, from_without, other_without}
+use Rattle.core_writes.proofs.Lists.{at_sector, fewer_those, into_without, from_without, other_without}
 use Rattle.core_writes.proofs.Journaling.{fewer_journals}
 use Rattle.core_writes.specs.Gone.{LateAreEvents, LosesAreEvents}
 
@@ -50,6 +52,7 @@ IsOver w by stamp = (stamp < w.now) ⊎ (w.phase by ≡ Dead)
 pub record Fades (w : World) (s : ℕ) : Type 0 where
   pub events : List Event
   pub run : Run w events (without_writes w s)
+  pub quiet : (segments : ℕ) → AllQuiet segments w events
 
 -- where what is in flight there is late or a dead server's
 pub fades : (w : World) (s : ℕ) → ((f : Flight) → w.flight s ≡ Some f → IsOver w f.by f.stamp) → ((f : ByteFlight) → w.byte_flight s ≡ Some f → IsOver w f.by f.stamp) → Fades w s
@@ -63,11 +66,13 @@ fades w s over over_bytes = go (w.flight s) refl
       events = [];
       run = subst (λ x. Run middle [] (record middle { flight = x; byte_flight = put w.byte_flight s None })) (sym (put_none middle.flight s (put_same w.flight s None)))
           (subst (λ x. Run middle [] (record middle { byte_flight = x })) (sym (put_none w.byte_flight s e)) stays);
+      quiet = λ segments. tt;
     }
     rest (Some f) e = record {
       events = FadeBytes s f ∷ [];
       run = goes (record { there = e; late = over_bytes f e })
           (subst (λ x. Run (after middle (FadeBytes s f)) [] (record middle { flight = x; byte_flight = put w.byte_flight s None })) (sym (put_none middle.flight s (put_same w.flight s None))) stays);
+      quiet = λ segments. (tt, tt);
     }
 
     twice : without_writes middle s ≡ without_writes w s
@@ -79,10 +84,11 @@ fades w s over over_bytes = go (w.flight s) refl
         record {
           events = r.events;
           run = subst (λ x. Run (record w { flight = x }) r.events (without_writes w s)) (put_none w.flight s e) (subst (λ (u : World). Run middle r.events u) twice r.run);
+          quiet = λ segments. subst (λ x. AllQuiet segments (record w { flight = x }) r.events) (put_none w.flight s e) (r.quiet segments);
         }
     go (Some f) e =
         let r : Fades middle s = rest (w.byte_flight s) refl in
-        record { events = Fade s f ∷ r.events; run = goes (record { there = e; late = over f e }) (subst (λ (u : World). Run middle r.events u) twice r.run) }
+        record { events = Fade s f ∷ r.events; run = goes (record { there = e; late = over f e }) (subst (λ (u : World). Run middle r.events u) twice r.run); quiet = λ segments. (tt, r.quiet segments) }
 
 -- ---- the ties
 
@@ -136,13 +142,12 @@ module _ (sectors_once : SectorsStandOnce) (s : RunMoment) (w : World) (journal 
   abbrev left_moment : RunMoment → Core
   left_moment x = landed x.core ticket
 
-  pub goes_quietly : IsOver w gone.server gone.stamp → (v : RunMoment) → v.core ≡ landed s.core ticket → v.disk ≡ s.disk → LeadsQuietly w v
+  pub goes_quietly : IsOver w gone.server gone.stamp → (v : RunMoment) → v.core ≡ landed s.core ticket → v.disk ≡ s.disk → LeadsQuietly w v journal
   goes_quietly over v core_is disk_is = record {
     leads = record {
       events = f.events;
       world = without_writes w gone.sector;
       run = f.run;
-      journal = journal;
       is = record {
         tied = subst (λ d. AreTied v.core d (without_writes w gone.sector)) (sym disk_is) (subst (λ c. AreTied c s.disk (without_writes w gone.sector)) (sym core_is) tied);
         journals = subst (λ d. AreJournals v.core.servers v.core.now v.core.flights d (without_writes w gone.sector) journal) (sym disk_is)
@@ -151,6 +156,7 @@ module _ (sectors_once : SectorsStandOnce) (s : RunMoment) (w : World) (journal 
       };
     };
     story = record { servers = refl; opening = refl; logged = refl; first = refl; home = refl; history = refl };
+    quiet = f.quiet v.core.setting.segments;
   }
     where
       f : Fades w gone.sector
@@ -171,7 +177,7 @@ module _ (sectors_once : SectorsStandOnce) (s : RunMoment) (w : World) (journal 
         marked = t.tied.marked;
         flying = λ e. flying_on s.core.setting.segments s.core.now s.core.flights ticket gone at stand_once w flying_here;
         disk = t.tied.disk;
-        rescues = t.tied.rescues;
+        rescues = λ e. rescues_on s.core.servers (without s.core.flights ticket) s.core.flights w (fewer_those s.core.flights ticket) (t.tied.rescues e);
         logged = t.tied.logged;
       }
 
@@ -189,7 +195,7 @@ loses once s w journal ticket r t m = go (value_at s.core.flights ticket) refl m
     dead_phase (life.Doomed fate) e = absurd (false≢true e)
     dead_phase life.Dead e = refl
 
-    go : (o : Option core.Flight) → value_at s.core.flights ticket ≡ o → IsTrue (is_flight (is_by_dead s.core) o) → LeadsQuietly w (next s (Lose ticket) Nothing)
+    go : (o : Option core.Flight) → value_at s.core.flights ticket ≡ o → IsTrue (is_flight (is_by_dead s.core) o) → LeadsQuietly w (next s (Lose ticket) Nothing) journal
     go None e d = absurd (false≢true d)
     go (Some gone) e d =
         goes_quietly once s w journal r t m.can.going ticket gone e
@@ -199,7 +205,7 @@ loses once s w journal ticket r t m = go (value_at s.core.flights ticket) refl m
 pub late : SectorsStandOnce → LateAreEvents
 late once s w journal ticket r t m = go (value_at s.core.flights ticket) refl m.hears
   where
-    go : (o : Option core.Flight) → value_at s.core.flights ticket ≡ o → MayArrive s.core.now o Late → LeadsQuietly w (next s (Arrive ticket) Late)
+    go : (o : Option core.Flight) → value_at s.core.flights ticket ≡ o → MayArrive s.core.now o Late → LeadsQuietly w (next s (Arrive ticket) Late) journal
     go None e h = absurd h
     go (Some gone) e h =
         goes_quietly once s w journal r t m.can.going ticket gone e (inl (subst (λ n. gone.stamp < n) (sym t.tied.lives.now) h))

@@ -73,6 +73,7 @@ module _ (now : ℕ) (more flights : Flights) (disk next : Sectors) (log : Secto
     counted = g.counted;
     sent = λ one number i by of early. g.sent one number (fewer one number i of) by of early;
     records = record {
+      ends_at_last = g.records.ends_at_last;
       given_up = g.records.given_up;
       placed = g.records.placed;
       old = λ s. place_more (log_records j.before ++ records_up_to log.floor j.log.placed) s (log.versions s) (versions s) (rises s) (g.records.old s);

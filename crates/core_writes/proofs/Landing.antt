@@ -42,10 +42,10 @@ use Rattle.core_world.specs.Events.{LeadsQuietly}
 use Rattle.core_world.specs.Journals.{AreJournals, AreReadings, Journal, sector_log}
 use Rattle.core_world.specs.Steps.{IsReached, IsWorldOf}
 use Rattle.core_world.specs.Ties.{AreTied, AreCached, AreFlying, AreMarked, AreRescues, IsCachedAs, IsMarkedAs, IsShown, is_log_sector, is_working}
-use Rattle.core_world.proofs.Same.{AreAlike, journals_alike, lives_alike, logged_alike, readings_alike, rescues_alike}
+use Rattle.core_world.proofs.Same.{AreAlike, journals_alike, lives_alike, logged_alike, readings_alike, rescues_alike, rescues_on}
 use Rattle.core_writes.proofs.Coming.{IsKeptAs}
 use Rattle.core_writes.proofs.Journaling.{AreFewer, landed_log}
-use Rattle.core_writes.proofs.Lists.{at_sector, from_without, gone_at}
+use Rattle.core_writes.proofs.Lists.{at_sector, fewer_those, from_without, gone_at}
 use Rattle.core_writes.proofs.LogPlaces.{slot_apart}
 
 -- ---- what is known of a write that arrives in time
@@ -192,6 +192,9 @@ module _ (orderly : (x : World) → Good x → (event : Event) → Can x event �
                 (λ e. inr (inr (subst (λ n. redo_all (to_replay w recovery.dead) n block ≡ block) (sym e) (whole recovery.dead (dead_apart by recovery who has))))) (λ n. old.1 x)),
           )
 
+      rescues_then : AreRescues s.core.servers s.core.flights w → AreRescues next_servers (without s.core.flights ticket) w
+      rescues_then g = rescues_alike next_servers s.core.servers alike w (without s.core.flights ticket) (rescues_on s.core.servers (without s.core.flights ticket) s.core.flights w (fewer_those s.core.flights ticket) g)
+
       abbrev core_then : Core
       core_then = record s.core { flights = without s.core.flights ticket; servers = next_servers }
 
@@ -203,17 +206,16 @@ module _ (orderly : (x : World) → Good x → (event : Event) → Can x event �
         marked = marked;
         flying = λ e. flies;
         disk = on_disk;
-        rescues = subst (λ o. AreRescues next_servers (record w { rescue = o })) (sym (rescue_same w.rescue refl)) (rescues_alike next_servers s.core.servers alike w t.tied.rescues);
+        rescues = λ e. subst (λ o. AreRescues next_servers (without s.core.flights ticket) (record w { rescue = o })) (sym (rescue_same w.rescue refl)) (rescues_then (t.tied.rescues e));
         logged = logged_alike next_servers s.core.servers alike w t.tied.logged;
       }
 
-      pub slot_lands : (next : RunMoment) → core_then ≡ next.core → written s.disk sector block ≡ next.disk → LeadsQuietly w next
+      pub slot_lands : (next : RunMoment) → core_then ≡ next.core → written s.disk sector block ≡ next.disk → LeadsQuietly w next journal
       slot_lands next core_is disk_is = record {
         leads = record {
           events = Land sector f ∷ [];
           world = u;
           run = goes can_land stays;
-          journal = journal;
           is = record {
             tied = subst (λ d. AreTied next.core d u) disk_is (subst (λ c. AreTied c (written s.disk sector block) u) core_is tied);
             journals = subst (λ d. AreJournals next.core.servers next.core.now next.core.flights d u journal) disk_is
@@ -222,6 +224,7 @@ module _ (orderly : (x : World) → Good x → (event : Event) → Can x event �
           };
         };
         story = record { servers = refl; opening = refl; logged = refl; first = refl; home = refl; history = refl };
+        quiet = (tt, tt);
       }
 
   -- ---- a sector of bytes
@@ -277,6 +280,9 @@ module _ (orderly : (x : World) → Good x → (event : Event) → Can x event �
           (λ b who. landed_log s.core.now s.core.flights (without s.core.flights ticket) s.disk (written s.disk sector block) (sector_log w b) (λ x. version_of (w.disk x)) b (journal b) byte_fewer
           (λ slot low. disk_same s.disk sector block high b who slot low) (λ x. le_refl (version_of (w.disk x))) (s.core.servers b).phase (s.core.servers b).ring (t.journals b who))
 
+      byte_rescues : AreRescues s.core.servers s.core.flights w → AreRescues next_servers (without s.core.flights ticket) w
+      byte_rescues g = rescues_alike next_servers s.core.servers alike w (without s.core.flights ticket) (rescues_on s.core.servers (without s.core.flights ticket) s.core.flights w (fewer_those s.core.flights ticket) g)
+
       abbrev byte_core : Core
       byte_core = record s.core { flights = without s.core.flights ticket; servers = next_servers }
 
@@ -288,17 +294,16 @@ module _ (orderly : (x : World) → Good x → (event : Event) → Can x event �
         marked = byte_marked;
         flying = λ e. flies;
         disk = bytes_on_disk;
-        rescues = rescues_alike next_servers s.core.servers alike w t.tied.rescues;
+        rescues = λ e. byte_rescues (t.tied.rescues e);
         logged = logged_alike next_servers s.core.servers alike w t.tied.logged;
       }
 
-      pub page_lands : (next : RunMoment) → byte_core ≡ next.core → written s.disk sector block ≡ next.disk → LeadsQuietly w next
+      pub page_lands : (next : RunMoment) → byte_core ≡ next.core → written s.disk sector block ≡ next.disk → LeadsQuietly w next journal
       page_lands next core_is disk_is = record {
         leads = record {
           events = LandBytes sector byte_f ∷ [];
           world = byte_u;
           run = goes (record { there = f_there; in_time = world_early }) stays;
-          journal = journal;
           is = record {
             tied = subst (λ d. AreTied next.core d byte_u) disk_is (subst (λ c. AreTied c (written s.disk sector block) byte_u) core_is byte_tied);
             journals = subst (λ d. AreJournals next.core.servers next.core.now next.core.flights d w journal) disk_is
@@ -307,4 +312,5 @@ module _ (orderly : (x : World) → Good x → (event : Event) → Can x event �
           };
         };
         story = record { servers = refl; opening = refl; logged = refl; first = refl; home = refl; history = refl };
+        quiet = (tt, tt);
       }

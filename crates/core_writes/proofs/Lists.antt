@@ -7,7 +7,8 @@ use Rattle.disk_definitions.proofs.Listed.{Among}
 use Rattle.sector_bytes.specs.SectorMaps.{value_at, without}
 use Rattle.core_definitions.specs.Flights.{Flight, Flights}
 use Rattle.core_laws.proofs.Flying.{Once, sectors_in}
-use Rattle.core_laws.proofs.Membership.{into_map}
+use Rattle.core_laws.proofs.Membership.{contains_in, in_contains, into_map}
+use Rattle.core_world.proofs.Same.{AreOfThose, among_those}
 
 -- one of another sector stays
 pub into_without : (flights : Flights) (ticket : ℕ) (gone : Flight) (one : ℕ × Flight) → value_at flights ticket ≡ Some gone → Among one flights → (one.1.sector ≡ gone.sector → ⊥) →
@@ -72,3 +73,7 @@ other_without (x ∷ xs) ticket gone one once e i same = go (is_at (nat_cmp tick
     go false f (inl k) rest = let r = gone_at xs ticket gone f in
         there r.0 r.1 (ap (λ (o : Flight). o.sector) r.2 ∙ sym same ∙ ap (λ (o : ℕ × Flight). o.1.sector) k)
     go false f (inr j) rest = rest f j
+
+-- without one of them they are of those
+pub fewer_those : (flights : Flights) (ticket : ℕ) → AreOfThose (without flights ticket) flights
+fewer_those flights ticket = among_those (without flights ticket) flights (λ one i. in_contains flights one (from_without flights ticket one (contains_in (without flights ticket) one i)))

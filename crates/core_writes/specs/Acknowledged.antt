@@ -1,18 +1,13 @@
 -- What an arrival of a sector with a version rests on is kept by every event of the theorem on sectors, where no log is known less.
-use Rattle.std.specs.Prelude.{ℕ, Bool, ◌≤◌}
+use Rattle.std.specs.Prelude.{ℕ, Bool}
 use Rattle.frang_base.specs.declared.lock.LockId.{LockId}
 use Rattle.sector_bytes.specs.Sectors.{Sectors}
 use Rattle.sector_world.specs.Kinds.{Good}
 use Rattle.sector_world.specs.Steps.{Can, Event, after}
-use Rattle.sector_world.specs.Steps.Event.{Ack}
 use Rattle.sector_world.specs.World.{World}
+use Rattle.core_world.specs.Beside.{KnowsMore}
 use Rattle.core_world.specs.Events.{first_world}
 use Rattle.core_writes.specs.Arrivals.{AreAcknowledged}
-
--- what is known of a log isn't less than before
-abbrev pub KnowsMore : World → Event → Type 0
-KnowsMore w (Ack a k) = w.acked a ≤ k
-KnowsMore w event = Unit {0}
 
 abbrev pub AcknowledgedStay : Type 0
 AcknowledgedStay = (w : World) (event : Event) → Can w event → KnowsMore w event → Good w → AreAcknowledged w → AreAcknowledged (after w event)

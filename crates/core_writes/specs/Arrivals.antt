@@ -20,4 +20,4 @@ AreAcknowledged w = (s : ℕ) (f : Flight) (m : ℕ) → w.flight s ≡ Some f �
 abbrev pub ArrivalsAreEvents : Type 0
 ArrivalsAreEvents =
     (s : RunMoment) (w : World) (journal : ℕ → Journal) (ticket : ℕ) (flight : core.Flight) (lock : LockId) → IsReached s → IsWorldOf s w journal → Good w → AreAcknowledged w →
-    value_at s.core.flights ticket ≡ Some flight → flight.purpose ≡ core.InPlace lock → Makes s (Arrive ticket) Written → LeadsQuietly w (next s (Arrive ticket) Written)
+    value_at s.core.flights ticket ≡ Some flight → flight.purpose ≡ core.InPlace lock → Makes s (Arrive ticket) Written → LeadsQuietly w (next s (Arrive ticket) Written) journal

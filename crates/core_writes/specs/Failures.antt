@@ -15,4 +15,4 @@ use Rattle.core_world.specs.Steps.{IsReached, IsWorldOf}
 abbrev pub FailuresAreEvents : Type 0
 FailuresAreEvents =
     (s : RunMoment) (w : World) (journal : ℕ → Journal) (ticket : ℕ) (flight : core.Flight) (lock : LockId) (new : Bool) → IsReached s → IsWorldOf s w journal → Good w →
-    value_at s.core.flights ticket ≡ Some flight → flight.purpose ≡ core.InPlace lock → Makes s (Arrive ticket) (PutFailed new) → LeadsQuietly w (next s (Arrive ticket) (PutFailed new))
+    value_at s.core.flights ticket ≡ Some flight → flight.purpose ≡ core.InPlace lock → Makes s (Arrive ticket) (PutFailed new) → LeadsQuietly w (next s (Arrive ticket) (PutFailed new)) journal

@@ -10,9 +10,9 @@ use Rattle.core_world.specs.Steps.{IsReached, IsWorldOf}
 -- one that comes too late
 abbrev pub LateAreEvents : Type 0
 LateAreEvents =
-    (s : RunMoment) (w : World) (journal : ℕ → Journal) (ticket : ℕ) → IsReached s → IsWorldOf s w journal → Makes s (Arrive ticket) Late → LeadsQuietly w (next s (Arrive ticket) Late)
+    (s : RunMoment) (w : World) (journal : ℕ → Journal) (ticket : ℕ) → IsReached s → IsWorldOf s w journal → Makes s (Arrive ticket) Late → LeadsQuietly w (next s (Arrive ticket) Late) journal
 
 -- one of a dead server that is lost
 abbrev pub LosesAreEvents : Type 0
 LosesAreEvents =
-    (s : RunMoment) (w : World) (journal : ℕ → Journal) (ticket : ℕ) → IsReached s → IsWorldOf s w journal → Makes s (Lose ticket) Nothing → LeadsQuietly w (next s (Lose ticket) Nothing)
+    (s : RunMoment) (w : World) (journal : ℕ → Journal) (ticket : ℕ) → IsReached s → IsWorldOf s w journal → Makes s (Lose ticket) Nothing → LeadsQuietly w (next s (Lose ticket) Nothing) journal

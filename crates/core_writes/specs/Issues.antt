@@ -9,7 +9,7 @@ use Rattle.core_definitions.specs.Writes.{Write}
 use Rattle.sector_world.specs.Kinds.{Good}
 use Rattle.sector_world.specs.World.{World}
 use Rattle.core_world.specs.Events.{LeadsQuietly}
-use Rattle.core_world.specs.Journals.{AreJournals, Journal}
+use Rattle.core_world.specs.Journals.{Journal}
 use Rattle.core_world.specs.Steps.{IsReached, IsWorldOf}
 
 -- a write of its server's log
@@ -30,11 +30,4 @@ issues_log c a sector = is_log_write (value_at (writes c a) sector)
 abbrev pub IssuesAreEvents : Type 0
 IssuesAreEvents =
     (s : RunMoment) (w : World) (journal : ℕ → Journal) (a sector : ℕ) → IsReached s → IsWorldOf s w journal → Good w → Makes s (Issue a sector) Nothing →
-    issues_log s.core a sector ≡ false → LeadsQuietly w (next s (Issue a sector) Nothing)
-
--- one of a log is none; how the journals go on is another law's, and asked for here
-abbrev pub LogIssuesAreNone : Type 0
-LogIssuesAreNone =
-    (s : RunMoment) (w : World) (journal new : ℕ → Journal) (a sector : ℕ) → IsReached s → IsWorldOf s w journal → Makes s (Issue a sector) Nothing →
-    issues_log s.core a sector ≡ true → AreJournals (next s (Issue a sector) Nothing).core.servers s.core.now (next s (Issue a sector) Nothing).core.flights s.disk w new →
-    LeadsQuietly w (next s (Issue a sector) Nothing)
+    issues_log s.core a sector ≡ false → LeadsQuietly w (next s (Issue a sector) Nothing) journal

@@ -86,6 +86,13 @@ impl<A: Outside, B: Outside> Pair<A, B> {
         }
     }
 
+    /// The first copy, in use or not.
+    pub fn first(&self) -> &A
+        ensures first { result.now ≡ self.now.first }
+    {
+        &self.first
+    }
+
     /// Copies the missed sectors from the copy in use to the one that is out. Then both are in use.
     /// After a refusal the copy stays out, and the pair's sectors and the list of those missed are
     /// as before.

@@ -32,10 +32,10 @@ pub record IsCounted (n : Numbers) (count : ℕ) (rest all : List Said) : Type 0
   pub bytes : n.bytes + sum_by file_bytes rest ≡ sum_by file_bytes all
   pub few : AreOf count n
 
--- the report with these numbers
-abbrev pub report_with : ℕ → Numbers → List ℕ
-report_with number n =
-    numbered (codes "soak ") number
+-- the report with these numbers behind a word and a number
+abbrev pub report_with : List ℕ → ℕ → Numbers → List ℕ
+report_with word number n =
+    numbered word number
     ++ (numbered (codes " lines ") n.answers
     ++ (numbered (codes " ok ") n.oks
     ++ (numbered (codes " files ") n.files

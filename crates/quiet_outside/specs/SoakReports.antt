@@ -1,4 +1,4 @@
--- The report of a soak: numbers read off the lines that were said.
+-- The report of a soak, over one disk or over a pair: numbers read off the lines that were said.
 use Rattle.std.specs.Prelude.{ℕ, ◌==◌, Bool, true, false, if◌then◌else◌, List, [], ◌∷◌, ◌++◌, filter_map, count_by, sum_by, codes}
 use Rattle.std.specs.Fmt.{decimal}
 use Rattle.frang_base.specs.declared.reply.Reply.TheVariants as reply
@@ -34,15 +34,25 @@ file_bytes _ = 0
 abbrev pub numbered : List ℕ → ℕ → List ℕ
 numbered words number = words ++ decimal number
 
--- the report on these lines: how many answers, how many of them `ok`, how many files, and the sum of their bytes; a file with two names counts twice
-abbrev pub soak_report : ℕ → List Said → List ℕ
-soak_report number saids =
-    numbered (codes "soak ") number
+-- the report on these lines behind a word and a number: how many answers, how many of them `ok`, how many files, and the sum of their bytes; a file with two names counts twice
+abbrev pub report_behind : List ℕ → ℕ → List Said → List ℕ
+report_behind word number saids =
+    numbered word number
     ++ (numbered (codes " lines ") (count_by is_answer saids)
     ++ (numbered (codes " ok ") (count_by is_ok saids)
     ++ (numbered (codes " files ") (count_by is_file saids)
     ++ (numbered (codes " bytes ") (sum_by file_bytes saids) ++ 10 ∷ []))))
 
+-- that of a soak, and that of a soak over a pair
+abbrev pub soak_report : ℕ → List Said → List ℕ
+soak_report number saids = report_behind (codes "soak ") number saids
+
+abbrev pub pair_report : ℕ → List Said → List ℕ
+pair_report number saids = report_behind (codes "pair ") number saids
+
 -- the report on these texts
 abbrev pub soak_line_of : ℕ → List (List ℕ) → List ℕ
 soak_line_of number texts = soak_report number (said_lines texts)
+
+abbrev pub pair_line_of : ℕ → List (List ℕ) → List ℕ
+pair_line_of number texts = pair_report number (said_lines texts)

@@ -105,6 +105,7 @@ impl<O: Outside> Quiet<O> {
         ensures outcome { PutOutcome (quiet_state O.state self.old)
             (quiet_state O.state self.new) put.entry.now result }
         ensures answer { PassedPut self.old self.new result }
+        ensures below { Follows (O.state self.old.out) (O.state self.new.out) }
     {
         if self.puts == u64::MAX {
             return Err(PutFault::NoMemory);
@@ -135,6 +136,7 @@ impl<O: Outside> Outside for Quiet<O> {
         ensures outcome { GetOutcome (quiet_state O.state self.old)
             (quiet_state O.state self.new) server.0 sector.0 result }
         ensures passes { Passes self.old self.new }
+        ensures below { Follows (O.state self.old.out) (O.state self.new.out) }
     {
         self.out.get(server, sector)
     }
@@ -146,6 +148,7 @@ impl<O: Outside> Outside for Quiet<O> {
 
         // The put that is to fail doesn't reach the outside below, and every other does.
         ensures answer { QuietPut self.old self.new put.entry.now result }
+        ensures below { Follows (O.state self.old.out) (O.state self.new.out) }
     {
         if self.is_due(put) {
             self.fail(put);

@@ -1,7 +1,7 @@
-// The report of a soak.
+// The report of a soak, over one disk or over a pair.
 ghost use Rattle.std.specs.Prelude.{◌≡◌, ◌++◌, IfOk, OnOk};
 ghost use Rattle.quiet_outside.specs.SoakNumbers.{numbers_in, report_with};
-ghost use Rattle.quiet_outside.specs.SoakReports.{numbered, said_lines, soak_line_of};
+ghost use Rattle.quiet_outside.specs.SoakReports.{numbered, pair_line_of, said_lines, soak_line_of};
 
 use crate::numbers::Numbers;
 use frang_base::{NoMemory, Text};
@@ -16,7 +16,15 @@ pub fn soak_line(alloc: Global, number: u64, lines: &[Text]) -> Result<Text, NoM
     ensures { IfOk result (λ text. text ≡ soak_line_of number lines.now) }
 {
     let numbers = numbers_of(alloc, lines)?;
-    report_text(alloc, number, &numbers)
+    report_text(alloc, b"soak ", number, &numbers)
+}
+
+/// The same report of a soak over a pair, with its own word.
+pub fn pair_line(alloc: Global, number: u64, lines: &[Text]) -> Result<Text, NoMemory>
+    ensures { IfOk result (λ text. text ≡ pair_line_of number lines.now) }
+{
+    let numbers = numbers_of(alloc, lines)?;
+    report_text(alloc, b"pair ", number, &numbers)
 }
 
 fn numbers_of(alloc: Global, lines: &[Text]) -> Result<Numbers, NoMemory>
@@ -31,11 +39,11 @@ fn numbers_of(alloc: Global, lines: &[Text]) -> Result<Numbers, NoMemory>
     Ok(numbers)
 }
 
-fn report_text(alloc: Global, number: u64, numbers: &Numbers) -> Result<Text, NoMemory>
-    ensures { IfOk result (λ text. text ≡ report_with number numbers.now) }
+fn report_text(alloc: Global, word: &[u8], number: u64, numbers: &Numbers) -> Result<Text, NoMemory>
+    ensures { IfOk result (λ text. text ≡ report_with word.now number numbers.now) }
 {
     let mut text = Text::new(alloc);
-    push_numbered(b"soak ", u128::from(number), &mut text)?;
+    push_numbered(word, u128::from(number), &mut text)?;
     push_numbered(b" lines ", u128::from(numbers.answers), &mut text)?;
     push_numbered(b" ok ", u128::from(numbers.oks), &mut text)?;
     push_numbered(b" files ", u128::from(numbers.files), &mut text)?;

@@ -32,7 +32,7 @@ use Rattle.stop_laws.specs.ClosedStop.{ClosedKeepAll, ClosedServersStand, still_
 use Rattle.stop_laws.proofs.Doubted.{doubted_shape}
 
 -- marks of doubt alone
-abbrev marks : List (List CellRun) → List Settled
+abbrev pub marks : List (List CellRun) → List Settled
 marks many = map (λ runs. InDoubt runs) many
 
 more_marks : (many : List (List CellRun)) (runs : List CellRun) → marks (many ++ runs ∷ []) ≡ marks many ++ InDoubt runs ∷ []
@@ -42,7 +42,7 @@ more_marks (x ∷ many) runs = ap (λ l. InDoubt x ∷ l) (more_marks many runs)
 -- ---- removals behind them
 
 module _ (server keeps : ℕ) where
-  no_mounts : (list : List Settled) (many : List (List CellRun)) → list_any (mounts server) (list ++ marks many) ≡ list_any (mounts server) list
+  pub no_mounts : (list : List Settled) (many : List (List CellRun)) → list_any (mounts server) (list ++ marks many) ≡ list_any (mounts server) list
   no_mounts [] [] = refl
   no_mounts [] (x ∷ many) = no_mounts [] many
   no_mounts (s ∷ list) many = ap (λ b. mounts server s || b) (no_mounts list many)
@@ -124,7 +124,7 @@ module _ (first : FileTree) (births : BirthsAscend first) where
 
 -- ---- some of the marks
 
-data Among : List (List CellRun) → List (List CellRun) → Type 0 where
+pub data Among : List (List CellRun) → List (List CellRun) → Type 0 where
   none : Among [] []
   both : {few many : List (List CellRun)} (runs : List CellRun) → Among few many → Among (runs ∷ few) (runs ∷ many)
   only : {few many : List (List CellRun)} (runs : List CellRun) → Among few many → Among few (runs ∷ many)
@@ -140,16 +140,20 @@ among_only few many runs (both x rest) = both x (among_only _ _ runs rest)
 among_only few many runs (only x rest) = only x (among_only few _ runs rest)
 
 -- two lists that differ by marks behind them
-record DifferByMarks (one two : List Settled) : Type 0 where
-  core : List Settled
-  few : List (List CellRun)
-  many : List (List CellRun)
-  one_is : one ≡ core ++ marks few
-  two_is : two ≡ core ++ marks many
-  among : Among few many
+pub record DifferByMarks (one two : List Settled) : Type 0 where
+  pub core : List Settled
+  pub few : List (List CellRun)
+  pub many : List (List CellRun)
+  pub one_is : one ≡ core ++ marks few
+  pub two_is : two ≡ core ++ marks many
+  pub among : Among few many
+
+-- none at first
+pub differ_at_first : (list : List Settled) → DifferByMarks list list
+differ_at_first list = record { core = list; few = []; many = []; one_is = sym (append-nil list); two_is = sym (append-nil list); among = none }
 
 module _ (first : FileTree) (births : BirthsAscend first) where
-  step_both : (server keeps : ℕ) (one two : List Settled) → DifferByMarks one two → DifferByMarks (recovered first server keeps one) (recovered first server keeps two)
+  pub step_both : (server keeps : ℕ) (one two : List Settled) → DifferByMarks one two → DifferByMarks (recovered first server keeps one) (recovered first server keeps two)
   step_both server keeps one two d =
       let runs = doubtful server first (left server keeps first d.core) in
       record {
@@ -161,7 +165,7 @@ module _ (first : FileTree) (births : BirthsAscend first) where
         among = among_both d.few d.many runs d.among;
       }
 
-  step_closed : (server keeps : ℕ) (one two : List Settled) → left server keeps first two ≡ two → DifferByMarks one two → DifferByMarks one (recovered first server keeps two)
+  pub step_closed : (server keeps : ℕ) (one two : List Settled) → left server keeps first two ≡ two → DifferByMarks one two → DifferByMarks one (recovered first server keeps two)
   step_closed server keeps one two whole d =
       let runs = doubtful server first two in
       record {
@@ -174,11 +178,11 @@ module _ (first : FileTree) (births : BirthsAscend first) where
         among = among_only d.few d.many runs d.among;
       }
 
-  push : (history : List Item) (server keeps : ℕ) → settled first (drop_after history (record { 0 = server }) keeps) ≡ recovered first server keeps (settled first history)
+  pub push : (history : List Item) (server keeps : ℕ) → settled first (drop_after history (record { 0 = server }) keeps) ≡ recovered first server keeps (settled first history)
   push history server keeps = settled-recovered first [] history (record { 0 = server }) (record { 0 = keeps })
 
   module _ (closed : ℕ → Bool) (greatest : ℕ → ℕ) where
-    all_differ : (servers : List ℕ) (one two : List Item) → ClosedKeepAll first closed greatest servers (settled first two) → DifferByMarks (settled first one) (settled first two) →
+    pub all_differ : (servers : List ℕ) (one two : List Item) → ClosedKeepAll first closed greatest servers (settled first two) → DifferByMarks (settled first one) (settled first two) →
         DifferByMarks (settled first (dropped_for one (still_open closed servers) greatest)) (settled first (dropped_for two servers greatest))
     all_differ [] one two kept d = d
     all_differ (server ∷ servers) one two kept d =
@@ -277,5 +281,4 @@ module _ (disk : Sectors) (first : FileTree) (births : BirthsAscend first) (one 
 pub closed_servers_stand : ClosedServersStand
 closed_servers_stand disk first history closed greatest servers births kept stands =
     still_stands disk first births (settled first (dropped_for history (still_open closed servers) greatest)) (settled first (dropped_for history servers greatest))
-    (all_differ first births closed greatest servers history history kept
-    (record { core = settled first history; few = []; many = []; one_is = sym (append-nil (settled first history)); two_is = sym (append-nil (settled first history)); among = none })) stands
+    (all_differ first births closed greatest servers history history kept (differ_at_first (settled first history))) stands

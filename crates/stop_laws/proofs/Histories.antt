@@ -55,7 +55,7 @@ mounted_leaves o reply.Mounted mounted = refl
 mounted_leaves o _ mounted = absurd (cc)
 
 -- one that leaves the tree is no answer, and has no record
-no_record : (t : FileTree) (e : Entry) → leaves_tree e.op e.reply ≡ true → is_recorded t e ≡ false
+pub no_record : (t : FileTree) (e : Entry) → leaves_tree e.op e.reply ≡ true → is_recorded t e ≡ false
 no_record t e leaves =
     ap₂ (λ a b. (a && list_any (differs (shape_of t) (shape_of (applied t e).tree)) (births t (applied t e).tree)) || b) (go (is_answer t e) refl) (no_file e.op e.reply leaves)
   where

@@ -22,7 +22,6 @@ pub mod SettledLeft
 pub mod Counted
 pub mod Shaped
 pub mod Lying
-pub mod Pieces
 pub mod Values
 pub mod Showing
 pub mod Stepping

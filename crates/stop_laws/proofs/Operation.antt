@@ -81,7 +81,7 @@ use Rattle.line_histories.proofs.Made.{made_exact}
 use Rattle.stop_laws.specs.Cells.{IsShown, having}
 use Rattle.stop_laws.proofs.Counted.{directories_few}
 use Rattle.stop_laws.proofs.Lying.{block_same, large_lies, large_same, small_lies}
-use Rattle.stop_laws.proofs.Pieces.{one_edit}
+use Rattle.line_sectors.proofs.Pieces.{one_edit}
 use Rattle.stop_laws.proofs.Shaped.{same_blank, written_too}
 use Rattle.stop_laws.proofs.Stepping.{IsStepped}
 use Rattle.stop_laws.proofs.Showing.{IsShownAt, bytes_on, run_shown, shown_there}

@@ -32,12 +32,12 @@ use Rattle.stop_laws.proofs.Uses.{lines_have_alone, lines_use, same_tree}
 
 -- ---- a place in a history
 
-each_behind : (P : Commit → Type 0) (more h : List Item) → Each P (more ++ h) → Each P h
+pub each_behind : (P : Commit → Type 0) (more h : List Item) → Each P (more ++ h) → Each P h
 each_behind P [] h all = all
 each_behind P (Done c ∷ more) h all = each_behind P more h all.1
 each_behind P (Doubt marked ∷ more) h all = each_behind P more h all
 
-legal_behind : (plan : _) (opening : ℕ → Block) (more h : List Item) → Legal plan opening (more ++ h) → Legal plan opening h
+pub legal_behind : (plan : _) (opening : ℕ → Block) (more h : List Item) → Legal plan opening (more ++ h) → Legal plan opening h
 legal_behind plan opening [] h all = all
 legal_behind plan opening (Done c ∷ more) h all = legal_behind plan opening more h all.1
 legal_behind plan opening (Doubt marked ∷ more) h all = legal_behind plan opening more h all
@@ -48,7 +48,7 @@ guarded_behind home (Done c ∷ more) h all = guarded_behind home more h all.1
 guarded_behind home (Doubt marked ∷ more) h all = guarded_behind home more h all
 
 module _ (numbers : List ℕ) (first : FileTree) where
-  distinct_behind : (more h : List Item) → Distinct (MayNumber numbers) first (more ++ h) → Distinct (MayNumber numbers) first h
+  pub distinct_behind : (more h : List Item) → Distinct (MayNumber numbers) first (more ++ h) → Distinct (MayNumber numbers) first h
   distinct_behind [] h all = all
   distinct_behind (Done c ∷ more) h all = distinct_behind more h all.2
   distinct_behind (Doubt marked ∷ more) h all = distinct_behind more h all

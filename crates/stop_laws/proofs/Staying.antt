@@ -58,7 +58,7 @@ module _ (server greatest durable : ℕ) (first : FileTree) where
 
   -- ---- operations above the number
 
-  own_above : (c : Commit) → is_own server durable c ≡ true → (c.by ≡ server) × (durable < c.op)
+  pub own_above : (c : Commit) → is_own server durable c ≡ true → (c.by ≡ server) × (durable < c.op)
   own_above c own = go (nat_eq c.by server) refl own
     where
       go : (b : Bool) → nat_eq c.by server ≡ b → (if b then nat_lt durable c.op else false) ≡ true → (c.by ≡ server) × (durable < c.op)
@@ -83,7 +83,7 @@ module _ (server greatest durable : ℕ) (first : FileTree) where
   none_above (Doubts marked runs ∷ older) none = none_above older none
 
   -- one that is there isn't below the number
-  some_above : (deeds : List Deed) → has_lost server durable deeds ≡ true → Each (λ c. c.by ≡ server → c.op ≤ durable) (items deeds) → ⊥
+  pub some_above : (deeds : List Deed) → has_lost server durable deeds ≡ true → Each (λ c. c.by ≡ server → c.op ≤ durable) (items deeds) → ⊥
   some_above [] some low = cc
   some_above (Does c e ∷ older) some low = go (is_own server durable c) refl some (λ n. some_above older n low.1)
     where
@@ -94,7 +94,7 @@ module _ (server greatest durable : ℕ) (first : FileTree) where
   some_above (Doubts marked runs ∷ older) some low = some_above older some low
 
   -- an operation of the server that comes after one above the number is above it
-  above_too : (c : Commit) (deeds : List Deed) → has_lost server durable deeds ≡ true → Each (λ other. other.by ≡ c.by → other.op < c.op) (items deeds) → c.by ≡ server → durable < c.op
+  pub above_too : (c : Commit) (deeds : List Deed) → has_lost server durable deeds ≡ true → Each (λ other. other.by ≡ c.by → other.op < c.op) (items deeds) → c.by ≡ server → durable < c.op
   above_too c [] some rise same = absurd (cc)
   above_too c (Does d e ∷ older) some rise same = go (is_own server durable d) refl some (λ n. above_too c older n rise.1 same)
     where

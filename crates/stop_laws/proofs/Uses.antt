@@ -1,5 +1,5 @@
 -- An operation of a legal history of lines uses the locks of what its entry touches: by the laws of lines, over a store with the bytes of the tree.
-use Rattle.std.proofs.Common.{ℕ, ◌≡◌, ◌≢◌, ◌==◌, ◌||◌, ⊎_elim, not, Bool, true, false, Option, Some, None, List, [], ◌∷◌, ◌++◌, map, is_some, eqb-true, refl, sym, ◌∙◌, ap, ap₂, subst}
+use Rattle.std.proofs.Common.{ℕ, ◌≡◌, ◌≢◌, ◌<◌, ◌==◌, ◌||◌, ⊎_elim, not, Bool, true, false, Option, Some, None, List, [], ◌∷◌, ◌++◌, map, is_some, eqb-true, refl, sym, ◌∙◌, ap, ap₂, subst}
 use Rattle.std.proofs.lemmas.Bool.{and_parts, or_cases}
 use Rattle.std.proofs.lemmas.List.Elements.{Contains-append_left}
 use Rattle.std.specs.List.{Contains, filter_map, list_any}
@@ -238,13 +238,13 @@ module _ (segments : ℕ) (when : ℕ → ℕ) (disk : Sectors) (tree t : FileTr
   reached : IsReached (node_at t)
   reached = reached_too (node_at t) n (subst IsReached (λ i. λ b. found t b i) (subst (λ (u : FileTree). IsReached (node_at u)) (sym shapes) stands.below.stands.reached))
 
-  pub room_alone : changes_room t e ≡ true → (segment : ℕ) × (has_lock (lock.Segment segment) c.alone ≡ true)
+  pub room_alone : changes_room t e ≡ true → (segment : ℕ) × (segment < segments) × (has_lock (lock.Segment segment) c.alone ≡ true)
   room_alone takes =
       let some = any_true (λ b. other_room (node_at t b) (node_at (applied t e).tree b)) (changed t e) takes in
       let held =
       line_room_alone c.asked hand store t n keeps.meets.naming c.op (when c.op) ever like.finish of_it reached at_hand_of_it new files like.is keeps.meets.tree some.0
       (subst (λ (a : Applied). other_room (node_at t some.0) (node_at a.tree some.0) ≡ true) applied_is some.1) in
-      (held.0, had_alone (lock.Segment held.0) held.2)
+      (held.0, subst (λ k. held.0 < k) (sym as_many) held.1, had_alone (lock.Segment held.0) held.2)
 
   pub touched_used : (b : ℕ) → is_some (node_at (shape_of t) b) ≡ true → touches t e b ≡ true → has_lock (lock.Node (n.inode b)) c.uses ≡ true
   touched_used b there touched =

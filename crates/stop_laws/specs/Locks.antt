@@ -1,5 +1,5 @@
 -- Operations of lines use the locks of what their entries touch.
-use Rattle.std.specs.Prelude.{◌≡◌, ℕ, true, is_some, List, ◌∷◌}
+use Rattle.std.specs.Prelude.{◌≡◌, ◌<◌, ℕ, true, is_some, List, ◌∷◌}
 use Rattle.frang_base.specs.Locks.{has_lock}
 use Rattle.frang_base.specs.declared.lock.LockId.TheVariants.{Node, Segment}
 use Rattle.tree_definitions.specs.declared.history.Entry.{Entry}
@@ -43,11 +43,11 @@ LinesHaveAloneWhatTheyChange =
     StandsNumbered segments opening (record { tree = first_tree; numbers = numbers }) → Legal (sector_plan segments when) opening (items (Does c e ∷ older)) →
     Distinct (MayNumber numbers) first_tree (items (Does c e ∷ older)) → AreLines when (Does c e ∷ older) → HasAloneWhatItChanges segments opening first_tree c e older
 
--- and where it makes or frees a node or changes a node's number of blocks, the lock of a segment
+-- and where it makes or frees a node or changes a node's number of blocks, the lock of a segment of the disk
 abbrev pub TakesRoomAlone : (segments : ℕ) → (ℕ → Block) → FileTree → Commit → Entry → List Deed → Type 0
 TakesRoomAlone segments opening first_tree c e older =
     (naming : Naming) → IsOfTree (store_after segments opening (items older)) (shape_of (tree_after first_tree older)) naming →
-    changes_room (tree_after first_tree older) e ≡ true → (segment : ℕ) × (has_lock (Segment segment) c.alone ≡ true)
+    changes_room (tree_after first_tree older) e ≡ true → (segment : ℕ) × (segment < segments) × (has_lock (Segment segment) c.alone ≡ true)
 
 abbrev pub LinesTakeRoomAlone : Type 0
 LinesTakeRoomAlone =

@@ -1,0 +1,15 @@
+mod Adding
+mod Fixed
+mod Due
+mod Stalls
+mod Phases
+mod Silence
+mod Answered
+mod Finished
+mod Showing
+mod Committed
+mod Stepping
+mod Numbering
+mod Stopping
+mod Example
+mod Recovered

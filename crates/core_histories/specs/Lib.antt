@@ -1,0 +1,10 @@
+pub mod Tellings
+pub mod Answers
+pub mod Phases
+pub mod Silent
+pub mod Told
+pub mod Steps
+pub mod Stops
+pub mod Numbers
+pub mod Examples
+pub mod Recovered

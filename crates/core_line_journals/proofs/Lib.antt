@@ -1,0 +1,4 @@
+pub mod Appending
+pub mod Kept
+pub mod Room
+pub mod Without

@@ -1,0 +1,4 @@
+pub mod Placed
+pub mod Found
+pub mod Growing
+pub mod Staying

@@ -1,0 +1,10 @@
+pub mod Claimed
+pub mod Ended
+pub mod Entries
+pub mod HeldMoment
+pub mod HeldTurns
+pub mod Holding
+pub mod Marked
+pub mod Numbered
+pub mod Pending
+pub mod Zeroed

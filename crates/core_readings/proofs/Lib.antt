@@ -1,0 +1,13 @@
+pub mod Ascending
+pub mod Replaying
+pub mod Reading
+pub mod Opening
+pub mod LastLoads
+pub mod Finishing
+pub mod Arrivals
+pub mod Issuing
+pub mod Behind
+pub mod Fitting
+pub mod Replays
+pub mod Beginning
+pub mod Naming

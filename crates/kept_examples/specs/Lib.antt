@@ -1,0 +1,4 @@
+pub mod Meeting
+pub mod Rows
+pub mod WrongRules
+pub mod Moments

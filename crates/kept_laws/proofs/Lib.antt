@@ -1,0 +1,9 @@
+pub mod Nodes
+pub mod Room
+pub mod Hiding
+pub mod Keeping
+pub mod Along
+pub mod Telling
+pub mod Legal
+pub mod Lines
+pub mod Closed

@@ -1,0 +1,4 @@
+pub mod There
+pub mod Changed
+pub mod Knowing
+pub mod Hiding

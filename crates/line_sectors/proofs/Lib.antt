@@ -1,0 +1,9 @@
+pub mod Walks
+pub mod Names
+pub mod Files
+pub mod Trails
+pub mod Looks
+pub mod Versions
+pub mod Pieces
+pub mod AtHand
+pub mod Needed

@@ -1,0 +1,11 @@
+pub mod Framed
+pub mod Sure
+pub mod Masked
+pub mod Covering
+pub mod Knowing
+pub mod Opened
+pub mod Fresh
+pub mod Image
+pub mod OfBytes
+pub mod Starting
+pub mod Saved

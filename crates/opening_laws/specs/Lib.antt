@@ -1,0 +1,5 @@
+pub mod Bytes
+pub mod Regions
+pub mod FirstDisks
+pub mod Starts
+pub mod Again

@@ -1,0 +1,4 @@
+pub mod Causing
+pub mod Counting
+pub mod Giving
+pub mod Tying

@@ -1,0 +1,2 @@
+pub mod FirstCopies
+pub mod Ties
