@@ -11,7 +11,7 @@ use Rattle.clap.specs.Kinds.{Kinds, or_else}
 use Rattle.clap.specs.Faults.{bundle_fault, bundle_step_fault, flags_fault, other_fault, short_fault}
 use Rattle.clap.specs.declared.builder.value_parser.ValueParser.TheVariants as parser
 use Rattle.clap.specs.declared.error.kind.ErrorKind.TheVariants.{UnknownArgument}
-use Rattle.command_words.specs.Given.{CommandOption, Segments, Image, Save, Order, is_dashed, name_in, option_named}
+use Rattle.command_words.specs.Given.{CommandOption, Segments, Image, Save, Order, Board, BoardTo, is_dashed, name_in, option_named}
 use Rattle.command_line.specs.Line.{many_rule}
 use Rattle.command_line.proofs.Rows.{id_of, place_id}
 
@@ -101,7 +101,7 @@ abbrev pub value_rule : CommandOption → Rule
 value_rule o = record (built_rule (id_of o)) { long = Some (id_of o) }
 
 abbrev pub rules_of_words : List Rule
-rules_of_words = place_rule ∷ value_rule Segments ∷ value_rule Image ∷ value_rule Save ∷ value_rule Order ∷ []
+rules_of_words = place_rule ∷ value_rule Segments ∷ value_rule Image ∷ value_rule Save ∷ value_rule Order ∷ value_rule Board ∷ value_rule BoardTo ∷ []
 
 -- text behind `--`: an option that is known, or none
 pub data Long (text : Text) : Type 0 where
@@ -117,7 +117,14 @@ long_look text = elim (decide (codes "segments") (name_in text)) [
       | inl is ↦ known Save (ap (arg_by_long rules_of_words) (sym is)) (ap option_named (sym is))
       | inr save ↦ elim (decide (codes "order") (name_in text)) [
         | inl is ↦ known Order (ap (arg_by_long rules_of_words) (sym is)) (ap option_named (sym is))
-        | inr order ↦ unknown (rw (segments.0, image.0, save.0, order.0) refl) (rw (segments.1, image.1, save.1, order.1) refl)
+        | inr order ↦ elim (decide (codes "board") (name_in text)) [
+          | inl is ↦ known Board (ap (arg_by_long rules_of_words) (sym is)) (ap option_named (sym is))
+          | inr board ↦ elim (decide (codes "board-to") (name_in text)) [
+            | inl is ↦ known BoardTo (ap (arg_by_long rules_of_words) (sym is)) (ap option_named (sym is))
+            | inr board_to ↦
+                unknown (rw (segments.0, image.0, save.0, order.0, board.0, board_to.0) refl) (rw (segments.1, image.1, save.1, order.1, board.1, board_to.1) refl)
+          ]
+        ]
       ]
     ]
   ]

@@ -7,7 +7,7 @@ use Rattle.clap.specs.Walk.{Held, Row, Rule, Step, Text, Waiting, Walk, after_fl
 use Rattle.clap.specs.Simple.{Shape, new_shape}
 use Rattle.clap.specs.Kinds.{Kinds, or_else}
 use Rattle.clap.specs.Faults.{defaults_fault, given_default_fault, level_fault, long_fault, other_fault, settle_fault, step_fault, turn_fault, walk_fault}
-use Rattle.command_words.specs.Given.{CommandOption, Segments, Image, Save, Order, Given, Reading, given_after, given_by, option_read, value_in, with_place, word_read}
+use Rattle.command_words.specs.Given.{CommandOption, Segments, Image, Save, Order, Board, BoardTo, Given, Reading, given_after, given_by, option_read, value_in, with_place, word_read}
 use Rattle.command_line.specs.Line.{given_in}
 use Rattle.command_line.proofs.Rows.{id_of, more, more_place, more_value, place_id}
 use Rattle.command_line.proofs.Looks.{IsPlain, Long, Look, ends, first_fails, has_fault, known, long, long_look, look, or_else_nothing, place_rule, plain, rules_of_words, short, short_fails, unknown, value_rule}
@@ -147,6 +147,8 @@ module _ (name : Text) where
   trailing_place rows (value Image before) word = (refl, refl)
   trailing_place rows (value Save before) word = (refl, refl)
   trailing_place rows (value Order before) word = (refl, refl)
+  trailing_place rows (value Board before) word = (refl, refl)
+  trailing_place rows (value BoardTo before) word = (refl, refl)
 
   plain_place : (rows : List Row) (last : Last) (word : Text) → IsPlain word → Passes (resting rows last false) word (resting (rows_in rows last) (place word) false)
   unfolding walked
@@ -156,6 +158,8 @@ module _ (name : Text) where
   plain_place rows (value Image before) word p = (rw (p.not_end, p.not_long, p.not_short) refl, rw (p.not_end, p.not_long, p.not_short) refl)
   plain_place rows (value Save before) word p = (rw (p.not_end, p.not_long, p.not_short) refl, rw (p.not_end, p.not_long, p.not_short) refl)
   plain_place rows (value Order before) word p = (rw (p.not_end, p.not_long, p.not_short) refl, rw (p.not_end, p.not_long, p.not_short) refl)
+  plain_place rows (value Board before) word p = (rw (p.not_end, p.not_long, p.not_short) refl, rw (p.not_end, p.not_long, p.not_short) refl)
+  plain_place rows (value BoardTo before) word p = (rw (p.not_end, p.not_long, p.not_short) refl, rw (p.not_end, p.not_long, p.not_short) refl)
 
   -- the value of an option that waits for it
   plain_value : (rows : List Row) (o : CommandOption) (word : Text) → IsPlain word → Passes (awaiting rows o) word (resting rows (value o word) false)
@@ -164,6 +168,8 @@ module _ (name : Text) where
   plain_value rows Image word p = (rw (p.not_end, p.not_long, p.not_short) refl, rw (p.not_end, p.not_long, p.not_short) refl)
   plain_value rows Save word p = (rw (p.not_end, p.not_long, p.not_short) refl, rw (p.not_end, p.not_long, p.not_short) refl)
   plain_value rows Order word p = (rw (p.not_end, p.not_long, p.not_short) refl, rw (p.not_end, p.not_long, p.not_short) refl)
+  plain_value rows Board word p = (rw (p.not_end, p.not_long, p.not_short) refl, rw (p.not_end, p.not_long, p.not_short) refl)
+  plain_value rows BoardTo word p = (rw (p.not_end, p.not_long, p.not_short) refl, rw (p.not_end, p.not_long, p.not_short) refl)
 
   -- the end of the options
   end_passes : (rows : List Row) (last : Last) → Passes (resting rows last false) (45 ∷ 45 ∷ []) (resting rows last true)
@@ -178,10 +184,14 @@ module _ (name : Text) where
   end_fails rows Image [] = refl
   end_fails rows Save [] = refl
   end_fails rows Order [] = refl
+  end_fails rows Board [] = refl
+  end_fails rows BoardTo [] = refl
   end_fails rows Segments (word ∷ rest) = refl
   end_fails rows Image (word ∷ rest) = refl
   end_fails rows Save (word ∷ rest) = refl
   end_fails rows Order (word ∷ rest) = refl
+  end_fails rows Board (word ∷ rest) = refl
+  end_fails rows BoardTo (word ∷ rest) = refl
 
   -- an option, with its value or without
   abbrev after_option : List Row → CommandOption → Option Text → State
@@ -223,9 +233,13 @@ module _ (name : Text) where
   known_turns rows (value Image before) word o None = (refl, refl)
   known_turns rows (value Save before) word o None = (refl, refl)
   known_turns rows (value Order before) word o None = (refl, refl)
+  known_turns rows (value Board before) word o None = (refl, refl)
+  known_turns rows (value BoardTo before) word o None = (refl, refl)
   known_turns rows (value Image before) word o (Some v) = (refl, refl)
   known_turns rows (value Save before) word o (Some v) = (refl, refl)
   known_turns rows (value Order before) word o (Some v) = (refl, refl)
+  known_turns rows (value Board before) word o (Some v) = (refl, refl)
+  known_turns rows (value BoardTo before) word o (Some v) = (refl, refl)
 
   option_passes : (rows : List Row) (last : Last) (b : ℕ) (text : Text) (o : CommandOption) → arg_by_long rules_of_words (name_and_value (b ∷ text)).0 ≡ Some (value_rule o)
       → Passes (resting rows last false) (45 ∷ 45 ∷ b ∷ text) (after_option (rows_in rows last) o (name_and_value (b ∷ text)).1)
@@ -247,9 +261,13 @@ module _ (name : Text) where
   unfilled_fails rows Image next None = refl
   unfilled_fails rows Save next None = refl
   unfilled_fails rows Order next None = refl
+  unfilled_fails rows Board next None = refl
+  unfilled_fails rows BoardTo next None = refl
   unfilled_fails rows Image next (Some v) = refl
   unfilled_fails rows Save next (Some v) = refl
   unfilled_fails rows Order next (Some v) = refl
+  unfilled_fails rows Board next (Some v) = refl
+  unfilled_fails rows BoardTo next (Some v) = refl
 
   long_fails : (rows : List Row) (o : CommandOption) (b : ℕ) (text : Text) → has_fault (other_fault s None (45 ∷ 45 ∷ b ∷ text) (held rows (Some (id_of o, [])))) ≡ true
   long_fails rows o b text = go (long_look (b ∷ text))
@@ -326,10 +344,14 @@ module _ (name : Text) where
   come [] texts (resting rows (value Image before) ended) = refl
   come [] texts (resting rows (value Save before) ended) = refl
   come [] texts (resting rows (value Order before) ended) = refl
+  come [] texts (resting rows (value Board before) ended) = refl
+  come [] texts (resting rows (value BoardTo before) ended) = refl
   come [] texts (awaiting rows Segments) = refl
   come [] texts (awaiting rows Image) = refl
   come [] texts (awaiting rows Save) = refl
   come [] texts (awaiting rows Order) = refl
+  come [] texts (awaiting rows Board) = refl
+  come [] texts (awaiting rows BoardTo) = refl
   come (word ∷ rest) texts st = one_more st word rest (come rest texts.1) (turned st word texts.0)
 
   -- ---- nothing is added at the end
@@ -341,11 +363,15 @@ module _ (name : Text) where
       let b = with_default a (value_rule Segments) in
       let d = with_default b (value_rule Image) in
       let e = with_default d (value_rule Save) in
+      let f = with_default e (value_rule Order) in
+      let g = with_default f (value_rule Board) in
       (λ i. or_else (empty_or (has_row place_id rows) (given_default_fault place_rule []) i)
       (or_else (empty_or (has_row (id_of Segments) a) (given_default_fault (value_rule Segments) []) i)
       (or_else (empty_or (has_row (id_of Image) b) (given_default_fault (value_rule Image) []) i)
       (or_else (empty_or (has_row (id_of Save) d) (given_default_fault (value_rule Save) []) i)
-      (or_else (empty_or (has_row (id_of Order) e) (given_default_fault (value_rule Order) []) i) [])))))
+      (or_else (empty_or (has_row (id_of Order) e) (given_default_fault (value_rule Order) []) i)
+      (or_else (empty_or (has_row (id_of Board) f) (given_default_fault (value_rule Board) []) i)
+      (or_else (empty_or (has_row (id_of BoardTo) g) (given_default_fault (value_rule BoardTo) []) i) [])))))))
 
   end_rows : (h : Held) → finished rules_of_words h ≡ (settled rules_of_words h).rows
   end_rows h =
@@ -354,7 +380,9 @@ module _ (name : Text) where
       let b = with_default a (value_rule Segments) in
       let d = with_default b (value_rule Image) in
       let e = with_default d (value_rule Save) in
-      either (has_row (id_of Order) e) e ∙ either (has_row (id_of Save) d) d ∙ either (has_row (id_of Image) b) b ∙ either (has_row (id_of Segments) a) a ∙ either (has_row place_id rows) rows
+      let f = with_default e (value_rule Order) in
+      let g = with_default f (value_rule Board) in
+      either (has_row (id_of BoardTo) g) g ∙ either (has_row (id_of Board) f) f ∙ either (has_row (id_of Order) e) e ∙ either (has_row (id_of Save) d) d ∙ either (has_row (id_of Image) b) b ∙ either (has_row (id_of Segments) a) a ∙ either (has_row place_id rows) rows
 
   level_is : (words : List Text) → level_fault s [] nothing_held words false [] ≡ faults (walk_from nothing_held) words
   level_is words =

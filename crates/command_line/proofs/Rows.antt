@@ -9,7 +9,7 @@ use Rattle.clap.specs.declared.parser.matches.Found.{Found}
 use Rattle.clap.proofs.WalkLemmas.{raw_values-rows}
 use Rattle.clap.specs.declared.builder.value_parser.Reading.TheVariants.{AsWritten}
 use Rattle.clap.specs.declared.parser.matches.ValueSource.TheVariants.{CommandLine}
-use Rattle.command_words.specs.Given.{CommandOption, Segments, Image, Save, Order, with_place, with_value}
+use Rattle.command_words.specs.Given.{CommandOption, Segments, Image, Save, Order, Board, BoardTo, with_place, with_value}
 use Rattle.command_line.specs.Line.{given_in, texts_in}
 use Rattle.command_words.specs.Views.{texts_of}
 
@@ -48,6 +48,8 @@ id_of Segments = codes "segments"
 id_of Image = codes "image"
 id_of Save = codes "save"
 id_of Order = codes "order"
+id_of Board = codes "board"
+id_of BoardTo = codes "board-to"
 
 pub more_place : (value : Text) (rows : List Row) → given_in (more place_id value rows) ≡ with_place value (given_in rows)
 more_place value rows = λ i. record {
@@ -56,6 +58,8 @@ more_place value rows = λ i. record {
   image = other place_id (id_of Image) value rows refl i;
   save = other place_id (id_of Save) value rows refl i;
   order = other place_id (id_of Order) value rows refl i;
+  board = other place_id (id_of Board) value rows refl i;
+  board_to = other place_id (id_of BoardTo) value rows refl i;
 }
 
 pub more_value : (o : CommandOption) (value : Text) (rows : List Row) → given_in (more (id_of o) value rows) ≡ with_value o value (given_in rows)
@@ -65,6 +69,8 @@ more_value Segments value rows = λ i. record {
   image = other (id_of Segments) (id_of Image) value rows refl i;
   save = other (id_of Segments) (id_of Save) value rows refl i;
   order = other (id_of Segments) (id_of Order) value rows refl i;
+  board = other (id_of Segments) (id_of Board) value rows refl i;
+  board_to = other (id_of Segments) (id_of BoardTo) value rows refl i;
 }
 more_value Image value rows = λ i. record {
   places = other (id_of Image) place_id value rows refl i;
@@ -72,6 +78,8 @@ more_value Image value rows = λ i. record {
   image = same (id_of Image) value rows refl i;
   save = other (id_of Image) (id_of Save) value rows refl i;
   order = other (id_of Image) (id_of Order) value rows refl i;
+  board = other (id_of Image) (id_of Board) value rows refl i;
+  board_to = other (id_of Image) (id_of BoardTo) value rows refl i;
 }
 more_value Save value rows = λ i. record {
   places = other (id_of Save) place_id value rows refl i;
@@ -79,6 +87,8 @@ more_value Save value rows = λ i. record {
   image = other (id_of Save) (id_of Image) value rows refl i;
   save = same (id_of Save) value rows refl i;
   order = other (id_of Save) (id_of Order) value rows refl i;
+  board = other (id_of Save) (id_of Board) value rows refl i;
+  board_to = other (id_of Save) (id_of BoardTo) value rows refl i;
 }
 more_value Order value rows = λ i. record {
   places = other (id_of Order) place_id value rows refl i;
@@ -86,4 +96,24 @@ more_value Order value rows = λ i. record {
   image = other (id_of Order) (id_of Image) value rows refl i;
   save = other (id_of Order) (id_of Save) value rows refl i;
   order = same (id_of Order) value rows refl i;
+  board = other (id_of Order) (id_of Board) value rows refl i;
+  board_to = other (id_of Order) (id_of BoardTo) value rows refl i;
+}
+more_value Board value rows = λ i. record {
+  places = other (id_of Board) place_id value rows refl i;
+  segments = other (id_of Board) (id_of Segments) value rows refl i;
+  image = other (id_of Board) (id_of Image) value rows refl i;
+  save = other (id_of Board) (id_of Save) value rows refl i;
+  order = other (id_of Board) (id_of Order) value rows refl i;
+  board = same (id_of Board) value rows refl i;
+  board_to = other (id_of Board) (id_of BoardTo) value rows refl i;
+}
+more_value BoardTo value rows = λ i. record {
+  places = other (id_of BoardTo) place_id value rows refl i;
+  segments = other (id_of BoardTo) (id_of Segments) value rows refl i;
+  image = other (id_of BoardTo) (id_of Image) value rows refl i;
+  save = other (id_of BoardTo) (id_of Save) value rows refl i;
+  order = other (id_of BoardTo) (id_of Order) value rows refl i;
+  board = other (id_of BoardTo) (id_of Board) value rows refl i;
+  board_to = same (id_of BoardTo) value rows refl i;
 }

@@ -16,8 +16,12 @@ option_rule name = record (many_rule name) { long = Some name }
 -- what may follow a command's name
 abbrev pub words_app : Text → App
 words_app name =
-    with_rule (with_rule (with_rule (with_rule (with_rule (new_app name) (many_rule (codes "places"))) (option_rule (codes "segments"))) (option_rule (codes "image"))) (option_rule (codes "save")))
-    (option_rule (codes "order"))
+    with_rule
+    (with_rule
+    (with_rule (with_rule (with_rule (with_rule (with_rule (new_app name) (many_rule (codes "places"))) (option_rule (codes "segments"))) (option_rule (codes "image"))) (option_rule (codes "save")))
+    (option_rule (codes "order")))
+    (option_rule (codes "board")))
+    (option_rule (codes "board-to"))
 
 -- the line without its commands: there are no words but ours, so no help and no name of the program
 abbrev pub bare_line : App
@@ -50,6 +54,8 @@ given_in rows = record {
   image = texts_in (codes "image") rows;
   save = texts_in (codes "save") rows;
   order = texts_in (codes "order") rows;
+  board = texts_in (codes "board") rows;
+  board_to = texts_in (codes "board-to") rows;
 }
 
 -- what a command that was met asks

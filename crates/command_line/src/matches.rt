@@ -1,7 +1,7 @@
 // What `clap` found in a line, as a command.
 ghost use Rattle.std.specs.Prelude.{◌≡◌, IfSome, option_map};
 ghost use Rattle.clap.specs.Words.{found_of, rows_of, subcommand_rows_of};
-ghost use Rattle.command_words.specs.Views.{HasSegments, asked_of, given_of};
+ghost use Rattle.command_words.specs.Views.{MayDo, asked_of, given_of};
 ghost use Rattle.command_line.specs.Line.{asked_entered, given_in};
 
 use clap::ArgMatches;
@@ -17,13 +17,15 @@ fn given_in<'m, 'a>(matches: &'m ArgMatches<'a>) -> GivenWords<'m, 'a>
         image: matches.get_strs("image"),
         save: matches.get_strs("save"),
         order: matches.get_strs("order"),
+        board: matches.get_strs("board"),
+        board_to: matches.get_strs("board-to"),
     }
 }
 
 /// What a command that `clap` met asks.
 pub fn asked_in<'a>(matches: &ArgMatches<'a>) -> Option<Command<'a>>
     ensures is { option_map asked_of result ≡ asked_entered (subcommand_rows_of matches.now) }
-    ensures segments { IfSome result (λ command. HasSegments command) }
+    ensures may { IfSome result (λ command. MayDo command) }
 {
     let (name, behind) = matches.subcommand()?;
     asked_with(name, given_in(behind))

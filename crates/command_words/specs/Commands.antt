@@ -1,8 +1,9 @@
 -- What the words of a command line ask.
-use Rattle.std.specs.Prelude.{ℕ, ◌-◌, ◌^◌, if◌then◌else◌, Option, Some, None, List, [], ◌∷◌, codes, option_and_then, option_map}
+use Rattle.std.specs.Prelude.{ℕ, ◌-◌, ◌^◌, Bool, true, not, ◌&&◌, if◌then◌else◌, Option, Some, None, is_none, List, [], ◌∷◌, codes, option_and_then, option_map}
 use Rattle.std.specs.Str.{bytes_eq}
 use Rattle.frang_base.specs.declared.limits.TheConstants.{SEGMENTS_DEFAULT, SEGMENTS_MAX}
 use Rattle.script_definitions.specs.Numerals.{number_in}
+use Rattle.command_words.specs.declared.boards.TheConstants.{READS_MAX}
 use Rattle.command_words.specs.Given.{Given, given_by}
 
 -- a fresh disk of so many segments, or that of an image, by its name
@@ -10,12 +11,18 @@ pub data AskedDisk : Type 0 where
   Fresh : (segments : ℕ) → AskedDisk
   Image : (image : List ℕ) → AskedDisk
 
--- to run a script, by its name, on a disk, and to save the disk where a name is given; where an order is given, in this order of events
+-- to read a run's figures so often while it goes on, and to write them to a file
+pub record BoardAsks : Type 0 where
+  pub reads : ℕ
+  pub file : List ℕ
+
+-- to run a script, by its name, on a disk, and to save the disk where a name is given; where an order is given, in this order of events; and to read its figures where that is asked
 pub record Asks : Type 0 where
   pub script : List ℕ
   pub disk : AskedDisk
   pub save : Option (List ℕ)
   pub order : Option ℕ
+  pub board : Option BoardAsks
 
 -- to recover an image, by its name, and to save it where a name is given; to tell its tree; to tell a log of it; to tell the report of its check
 pub data ImageAsks : Type 0 where
@@ -77,23 +84,49 @@ order_in (Some value) = option_map (λ order. Some order) (wide_number value)
 abbrev pub disk_by : Given → Option AskedDisk
 disk_by given = option_and_then (λ segments. option_and_then (λ image. disk_in segments image) (at_most_one given.image)) (at_most_one given.segments)
 
--- run SCRIPT [--segments S | --image FILE] [--save FILE] [--order N]
+-- so many reads, into this file: neither without the other
+abbrev pub board_in : Option (List ℕ) → Option (List ℕ) → Option (Option BoardAsks)
+board_in None None = Some None
+board_in (Some reads) (Some file) = option_map (λ n. Some (record { reads = n; file = file })) (number_in 1 READS_MAX reads)
+board_in None (Some file) = None
+board_in (Some reads) None = None
+
+abbrev pub board_by : Given → Option (Option BoardAsks)
+board_by given = option_and_then (λ reads. option_and_then (λ file. board_in reads file) (at_most_one given.board_to)) (at_most_one given.board)
+
+-- another file than the one of the save
+abbrev pub is_other_file : List ℕ → Option (List ℕ) → Bool
+is_other_file file None = true
+is_other_file file (Some save) = not (bytes_eq file save)
+
+-- no figures are read where the events are ordered, and none are written to the file of the save
+abbrev pub may_read : Option BoardAsks → Option (List ℕ) → Option ℕ → Bool
+may_read None save order = true
+may_read (Some board) save order = is_none order && is_other_file board.file save
+
+abbrev pub if_fits : Asks → Option Asks
+if_fits asks = if may_read asks.board asks.save asks.order then Some asks else None
+
+-- run SCRIPT [--segments S | --image FILE] [--save FILE] [--order N | --board N --board-to FILE]
 abbrev pub run_by : Given → Option Asks
 run_by given =
     option_and_then
     (λ script. option_and_then
-    (λ disk. option_and_then (λ save. option_map (λ order. record { script = script; disk = disk; save = save; order = order }) (option_and_then order_in (at_most_one given.order)))
+    (λ disk. option_and_then
+    (λ save. option_and_then
+    (λ order. option_and_then (λ board. if_fits (record { script = script; disk = disk; save = save; order = order; board = board })) (board_by given))
+    (option_and_then order_in (at_most_one given.order)))
     (at_most_one given.save))
     (disk_by given))
     (only given.places)
 
 -- recover IMAGE [--save FILE]
 abbrev pub recover_by : Given → Option ImageAsks
-recover_by given = option_and_then (λ image. option_map (λ save. Recover image save) (at_most_one given.save)) (unless given.order (unless given.image (unless given.segments (only given.places))))
+recover_by given = option_and_then (λ image. option_map (λ save. Recover image save) (at_most_one given.save)) (unless given.board_to (unless given.board (unless given.order (unless given.image (unless given.segments (only given.places))))))
 
 -- a word, where no option is given
 abbrev pub bare : Given → Option (List ℕ) → Option (List ℕ)
-bare given word = unless given.order (unless given.save (unless given.image (unless given.segments word)))
+bare given word = unless given.board_to (unless given.board (unless given.order (unless given.save (unless given.image (unless given.segments word)))))
 
 -- tree IMAGE
 abbrev pub tree_by : Given → Option ImageAsks

@@ -29,7 +29,7 @@ given_twice : asked_by (codes "run" ∷ codes "s" ∷ codes "--segments=2" ∷ c
 given_twice = refl
 
 -- the last order, and one past it; an order has no sign and no leading zero, and is a run's
-last_order : asked_by (codes "run" ∷ codes "--order" ∷ codes "18446744073709551615" ∷ codes "s" ∷ []) ≡ Some (Run (record { script = codes "s"; disk = Fresh 16; save = None; order = Some (2 ^ 64 - 1) }))
+last_order : asked_by (codes "run" ∷ codes "--order" ∷ codes "18446744073709551615" ∷ codes "s" ∷ []) ≡ Some (Run (record { script = codes "s"; disk = Fresh 16; save = None; order = Some (2 ^ 64 - 1); board = None }))
 last_order = refl
 
 no_order : asked_by (codes "run" ∷ codes "s" ∷ codes "--order=18446744073709551616" ∷ []) ≡ None
@@ -48,18 +48,18 @@ an_ordered_tree : asked_by (codes "tree" ∷ codes "img" ∷ codes "--order=1" �
 an_ordered_tree = refl
 
 -- a run on an image, which has its own segments, and one that is saved; an image is one, and a run's
-an_image : asked_by (codes "run" ∷ codes "--image" ∷ codes "img" ∷ codes "s" ∷ []) ≡ Some (Run (record { script = codes "s"; disk = Image (codes "img"); save = None; order = None }))
+an_image : asked_by (codes "run" ∷ codes "--image" ∷ codes "img" ∷ codes "s" ∷ []) ≡ Some (Run (record { script = codes "s"; disk = Image (codes "img"); save = None; order = None; board = None }))
 an_image = refl
 
 an_image_with_segments : asked_by (codes "run" ∷ codes "s" ∷ codes "--segments=2" ∷ codes "--image=img" ∷ []) ≡ None
 an_image_with_segments = refl
 
 a_saved_run : asked_by (codes "run" ∷ codes "s" ∷ codes "--save" ∷ codes "new" ∷ codes "--segments=2" ∷ [])
-    ≡ Some (Run (record { script = codes "s"; disk = Fresh 2; save = Some (codes "new"); order = None }))
+    ≡ Some (Run (record { script = codes "s"; disk = Fresh 2; save = Some (codes "new"); order = None; board = None }))
 a_saved_run = refl
 
 a_saved_image : asked_by (codes "run" ∷ codes "--save=new" ∷ codes "s" ∷ codes "--order=7" ∷ codes "--image=img" ∷ [])
-    ≡ Some (Run (record { script = codes "s"; disk = Image (codes "img"); save = Some (codes "new"); order = Some 7 }))
+    ≡ Some (Run (record { script = codes "s"; disk = Image (codes "img"); save = Some (codes "new"); order = Some 7; board = None }))
 a_saved_image = refl
 
 image_twice : asked_by (codes "run" ∷ codes "s" ∷ codes "--image=img" ∷ codes "--image=img" ∷ []) ≡ None
@@ -121,3 +121,35 @@ an_ordered_soak = refl
 
 a_soak_of_an_image : asked_by (codes "soak" ∷ codes "7" ∷ codes "--image=img" ∷ []) ≡ None
 a_soak_of_an_image = refl
+
+-- reads of a run's figures, 1 to 1,000, with a file for them, in any places; the file isn't the save's, and the events aren't ordered
+a_board : asked_by (codes "run" ∷ codes "--board" ∷ codes "1000" ∷ codes "s" ∷ codes "--save=new" ∷ codes "--board-to=figures" ∷ [])
+    ≡ Some (Run (record { script = codes "s"; disk = Fresh 16; save = Some (codes "new"); order = None; board = Some (record { reads = 1000; file = codes "figures" }) }))
+a_board = refl
+
+no_reads : asked_by (codes "run" ∷ codes "s" ∷ codes "--board=0" ∷ codes "--board-to=figures" ∷ []) ≡ None
+no_reads = refl
+
+too_many_reads : asked_by (codes "run" ∷ codes "s" ∷ codes "--board=1001" ∷ codes "--board-to=figures" ∷ []) ≡ None
+too_many_reads = refl
+
+a_board_without_file : asked_by (codes "run" ∷ codes "s" ∷ codes "--board=3" ∷ []) ≡ None
+a_board_without_file = refl
+
+a_file_without_board : asked_by (codes "run" ∷ codes "s" ∷ codes "--board-to=figures" ∷ []) ≡ None
+a_file_without_board = refl
+
+an_ordered_board : asked_by (codes "run" ∷ codes "s" ∷ codes "--board=3" ∷ codes "--board-to=figures" ∷ codes "--order=1" ∷ []) ≡ None
+an_ordered_board = refl
+
+one_file_for_both : asked_by (codes "run" ∷ codes "s" ∷ codes "--board=3" ∷ codes "--board-to=new" ∷ codes "--save=new" ∷ []) ≡ None
+one_file_for_both = refl
+
+boards_twice : asked_by (codes "run" ∷ codes "s" ∷ codes "--board=3" ∷ codes "--board=3" ∷ codes "--board-to=figures" ∷ []) ≡ None
+boards_twice = refl
+
+a_watched_soak : asked_by (codes "soak" ∷ codes "7" ∷ codes "--board=3" ∷ codes "--board-to=figures" ∷ []) ≡ None
+a_watched_soak = refl
+
+a_watched_image : asked_by (codes "recover" ∷ codes "img" ∷ codes "--board-to=figures" ∷ []) ≡ None
+a_watched_image = refl

@@ -11,6 +11,8 @@ pub data CommandOption : Type 0 where
   Image : CommandOption
   Save : CommandOption
   Order : CommandOption
+  Board : CommandOption
+  BoardTo : CommandOption
 
 -- what words give, each list in the words' order: the positional words, and the values of each option
 pub record Given : Type 0 where
@@ -19,6 +21,8 @@ pub record Given : Type 0 where
   pub image : List (List ℕ)
   pub save : List (List ℕ)
   pub order : List (List ℕ)
+  pub board : List (List ℕ)
+  pub board_to : List (List ℕ)
 
 -- words that were read: what they gave, the option whose value the next word has to be, and whether options have ended
 pub record Reading : Type 0 where
@@ -27,7 +31,7 @@ pub record Reading : Type 0 where
   pub ended : Bool
 
 abbrev pub nothing_read : Reading
-nothing_read = record { given = record { places = []; segments = []; image = []; save = []; order = [] }; awaited = None; ended = false }
+nothing_read = record { given = record { places = []; segments = []; image = []; save = []; order = []; board = []; board_to = [] }; awaited = None; ended = false }
 
 -- a word that begins with `-` and is longer than that
 abbrev pub is_dashed : List ℕ → Bool
@@ -45,6 +49,8 @@ with_value Segments value given = record given { segments = given.segments ++ va
 with_value Image value given = record given { image = given.image ++ value ∷ [] }
 with_value Save value given = record given { save = given.save ++ value ∷ [] }
 with_value Order value given = record given { order = given.order ++ value ∷ [] }
+with_value Board value given = record given { board = given.board ++ value ∷ [] }
+with_value BoardTo value given = record given { board_to = given.board_to ++ value ∷ [] }
 
 -- the option that a text names
 abbrev pub option_named : List ℕ → Option CommandOption
@@ -53,7 +59,9 @@ option_named name =
     else (if bytes_eq name (codes "image") then Some Image
     else (if bytes_eq name (codes "save") then Some Save
     else (if bytes_eq name (codes "order") then Some Order
-    else None)))
+    else (if bytes_eq name (codes "board") then Some Board
+    else (if bytes_eq name (codes "board-to") then Some BoardTo
+    else None)))))
 
 -- what stands before the first `=` of a text, and what stands after it, where there is one
 abbrev pub is_equals : ℕ → Bool

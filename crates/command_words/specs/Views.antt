@@ -1,8 +1,9 @@
 -- Words and commands of the code as the definitions have them.
-use Rattle.std.specs.Prelude.{ℕ, ◌≤◌, Option, Some, None, List, [], map, option_map}
+use Rattle.std.specs.Prelude.{ℕ, ◌≤◌, IsTrue, Option, Some, None, List, [], map, option_map}
 use Rattle.std.specs.Borrow.{Bor}
 use Rattle.frang_base.specs.declared.limits.TheConstants.{SEGMENTS_MAX}
 use Rattle.command_words.specs.declared.words.GivenWords.{GivenWords}
+use Rattle.command_words.specs.declared.boards.BoardChoice.{BoardChoice}
 use Rattle.command_words.specs.declared.commands.Command.{Command}
 use Rattle.command_words.specs.declared.commands.Command.TheVariants as command
 use Rattle.command_words.specs.declared.commands.DiskChoice.{DiskChoice}
@@ -11,7 +12,7 @@ use Rattle.command_words.specs.declared.commands.ImageCommand.{ImageCommand}
 use Rattle.command_words.specs.declared.commands.ImageCommand.TheVariants as image
 use Rattle.command_words.specs.declared.commands.RunCommand.{RunCommand}
 use Rattle.command_words.specs.Given.{Given}
-use Rattle.command_words.specs.Commands.{Asked, AskedDisk, Asks, Fresh, Fsck, Image, ImageAsks, Log, OnImage, Recover, Run, Soak, Tree}
+use Rattle.command_words.specs.Commands.{Asked, AskedDisk, Asks, BoardAsks, Fresh, Fsck, Image, ImageAsks, Log, OnImage, Recover, Run, Soak, Tree, may_read}
 
 -- the text of a word, if there is one
 abbrev pub text_of : Option (Bor (List ℕ)) → Option (List ℕ)
@@ -26,14 +27,17 @@ abbrev pub pair_of : Option (Bor (List ℕ) × Bor (List ℕ)) → Option (List 
 pair_of words = option_map (λ w. (w.0.now, w.1.now)) words
 
 abbrev pub given_of : GivenWords → Given
-given_of g = record { places = texts_of g.places; segments = texts_of g.segments; image = texts_of g.image; save = texts_of g.save; order = texts_of g.order }
+given_of g = record { places = texts_of g.places; segments = texts_of g.segments; image = texts_of g.image; save = texts_of g.save; order = texts_of g.order; board = texts_of g.board; board_to = texts_of g.board_to }
 
 abbrev pub disk_of : DiskChoice → AskedDisk
 disk_of (choice.Fresh segments) = Fresh segments
 disk_of (choice.Image name) = Image name.now
 
+abbrev pub board_of : BoardChoice → BoardAsks
+board_of board = record { reads = board.reads; file = board.file.now }
+
 abbrev pub asks_of : RunCommand → Asks
-asks_of run = record { script = run.script.now; disk = disk_of run.disk; save = text_of run.save; order = run.order }
+asks_of run = record { script = run.script.now; disk = disk_of run.disk; save = text_of run.save; order = run.order; board = option_map board_of run.board }
 
 abbrev pub image_asks_of : ImageCommand → ImageAsks
 image_asks_of (image.Recover name save) = Recover name.now (text_of save)
@@ -55,8 +59,13 @@ abbrev pub HasFreshSize : DiskChoice → Type 0
 HasFreshSize (choice.Fresh segments) = HasSize segments
 HasFreshSize (choice.Image name) = Unit {0}
 
--- the fresh disk of a run has so
-abbrev pub HasSegments : Command → Type 0
-HasSegments (command.Run run) = HasFreshSize run.disk
-HasSegments (command.OnImage asks) = Unit {0}
-HasSegments (command.Soak number) = Unit {0}
+-- the fresh disk of a run has so, and its figures may be read where they are
+pub record MayRun (run : RunCommand) : Type 0 where
+  pub size : HasFreshSize run.disk
+  pub read : IsTrue (may_read (option_map board_of run.board) (text_of run.save) run.order)
+
+-- what is asked for can be done: a run may be
+abbrev pub MayDo : Command → Type 0
+MayDo (command.Run run) = MayRun run
+MayDo (command.OnImage asks) = Unit {0}
+MayDo (command.Soak number) = Unit {0}

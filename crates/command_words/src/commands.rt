@@ -1,9 +1,10 @@
 // What the words of a command line ask.
 ghost use Rattle.std.specs.Prelude.{◌≡◌, ◌≤◌, IfSome, option_map};
 ghost use Rattle.frang_base.specs.declared.limits.TheConstants.{SEGMENTS_MAX};
-ghost use Rattle.command_words.specs.Commands.{asked_with, bare, disk_by, disk_in, fsck_by, image_asked, log_by, recover_by, run_by, segments_in, soak_by, tree_by};
-ghost use Rattle.command_words.specs.Views.{HasFreshSize, HasSegments, asked_of, asks_of, disk_of, given_of, image_asks_of, text_of};
+ghost use Rattle.command_words.specs.Commands.{asked_with, bare, disk_by, disk_in, fsck_by, if_fits, image_asked, log_by, recover_by, run_by, segments_in, soak_by, tree_by};
+ghost use Rattle.command_words.specs.Views.{HasFreshSize, MayDo, MayRun, asked_of, asks_of, disk_of, given_of, image_asks_of, text_of};
 
+use crate::boards::{BoardChoice, board_by, may_read};
 use crate::orders::{order_in, wide_number};
 use crate::words::{GivenWords, at_most_one, only, only_two, unless};
 use frang_base::limits::{SEGMENTS_DEFAULT, SEGMENTS_MAX};
@@ -16,13 +17,15 @@ pub enum DiskChoice<'a> {
     Image { image: &'a str },
 }
 
-/// A script to be run on a disk, in the order of events that this number picks, where one is given; after the run the disk is saved, where a name is given for its image.
+/// A script to be run on a disk, in the order of events that this number picks, where one is given; its figures are read while it goes on, where that is asked, which isn't with an order; after the
+/// run the disk is saved, where a name is given for its image, which isn't the one for the figures.
 #[derive(Clone, Copy)]
 pub struct RunCommand<'a> {
     pub script: &'a str,
     pub disk: DiskChoice<'a>,
     pub save: Option<&'a str>,
     pub order: Option<u64>,
+    pub board: Option<BoardChoice<'a>>,
 }
 
 /// A command on an image, by the image's name.
@@ -93,29 +96,43 @@ fn disk_by<'a>(given: GivenWords<'_, 'a>) -> Option<DiskChoice<'a>>
     disk_in(segments, image)
 }
 
+// The run, where its options go together.
+fn if_fits<'a>(run: RunCommand<'a>) -> Option<RunCommand<'a>>
+    requires { HasFreshSize run.disk }
+    ensures is { option_map asks_of result ≡ if_fits (asks_of run.entry) }
+    ensures may { IfSome result (λ run. MayRun run) }
+{
+    if may_read(&run.board, run.save, run.order) {
+        Some(run)
+    } else {
+        None
+    }
+}
+
 fn run_by<'a>(given: GivenWords<'_, 'a>) -> Option<RunCommand<'a>>
     ensures is { option_map asks_of result ≡ run_by (given_of given.entry) }
-    ensures sized { IfSome result (λ run. HasFreshSize run.disk) }
+    ensures may { IfSome result (λ run. MayRun run) }
 {
     let script = only(given.places)?;
     let disk = disk_by(given)?;
     let save = at_most_one(given.save)?;
     let order = order_in(at_most_one(given.order)?)?;
-    Some(RunCommand {
+    let board = board_by(given)?;
+    if_fits(RunCommand {
         script,
         disk,
         save,
         order,
+        board,
     })
 }
 
 fn recover_by<'a>(given: GivenWords<'_, 'a>) -> Option<ImageCommand<'a>>
     ensures { option_map image_asks_of result ≡ recover_by (given_of given.entry) }
 {
-    let image = unless(
-        given.order,
-        unless(given.image, unless(given.segments, only(given.places))),
-    )?;
+    let image = unless(given.segments, only(given.places));
+    let image = unless(given.order, unless(given.image, image));
+    let image = unless(given.board_to, unless(given.board, image))?;
     let save = at_most_one(given.save)?;
     Some(ImageCommand::Recover { image, save })
 }
@@ -124,13 +141,9 @@ fn recover_by<'a>(given: GivenWords<'_, 'a>) -> Option<ImageCommand<'a>>
 fn bare<'a>(given: GivenWords<'_, '_>, word: Option<&'a str>) -> Option<&'a str>
     ensures { text_of result ≡ bare (given_of given.entry) (text_of word.entry) }
 {
-    unless(
-        given.order,
-        unless(
-            given.save,
-            unless(given.image, unless(given.segments, word)),
-        ),
-    )
+    let word = unless(given.image, unless(given.segments, word));
+    let word = unless(given.order, unless(given.save, word));
+    unless(given.board_to, unless(given.board, word))
 }
 
 fn tree_by<'a>(given: GivenWords<'_, 'a>) -> Option<ImageCommand<'a>>
@@ -187,7 +200,7 @@ fn image_asked<'a>(name: &str, given: GivenWords<'_, 'a>) -> Option<ImageCommand
 /// What a command of this name asks, by what stands behind the name. `None` exactly where there is no such command, or it isn't asked so.
 pub fn asked_with<'a>(name: &str, given: GivenWords<'_, 'a>) -> Option<Command<'a>>
     ensures is { option_map asked_of result ≡ asked_with name.now (given_of given.entry) }
-    ensures segments { IfSome result (λ command. HasSegments command) }
+    ensures may { IfSome result (λ command. MayDo command) }
 {
     if name == "run" {
         let run = run_by(given)?;

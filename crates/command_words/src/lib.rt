@@ -3,9 +3,11 @@
 //! elsewhere. What words mean, sorted or not, is defined here; `command_line` sorts them.
 #![tactic(auto)]
 
+mod boards;
 mod commands;
 mod orders;
 mod words;
 
+pub use boards::{BoardChoice, READS_MAX};
 pub use commands::{Command, DiskChoice, ImageCommand, RunCommand, asked_with};
 pub use words::GivenWords;

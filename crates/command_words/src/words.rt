@@ -11,6 +11,8 @@ pub struct GivenWords<'m, 'a> {
     pub image: Option<&'m [&'a str]>,
     pub save: Option<&'m [&'a str]>,
     pub order: Option<&'m [&'a str]>,
+    pub board: Option<&'m [&'a str]>,
+    pub board_to: Option<&'m [&'a str]>,
 }
 
 /// The only word.

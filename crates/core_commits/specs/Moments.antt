@@ -1,18 +1,15 @@
 -- The events of a line at a moment of a run, whose world has a history of lines.
 use Rattle.std.specs.Prelude.{◌≡◌, ◌≢◌, ◌<◌, ℕ, Bool, IsTrue, List, [], ◌∷◌, ◌++◌, filter, map, Ok, Some, true, false}
 use Rattle.std.specs.Map.{keys_of}
-use Rattle.frang_base.specs.declared.limits.TheConstants.{LOG_SECTORS, SECTOR_BYTES}
 use Rattle.frang_base.specs.declared.lock.LockId.{LockId}
 use Rattle.frang_base.specs.declared.op.Op.{Op}
 use Rattle.frang_base.specs.declared.script.Line.{Line}
 use Rattle.script_definitions.specs.ScriptText.{script_of}
 use Rattle.cache_definitions.specs.Caches.{Cache}
 use Rattle.sector_bytes.specs.Blocks.{Block}
-use Rattle.sector_bytes.specs.Bytes.{zeros}
 use Rattle.sector_bytes.specs.Sectors.{Sectors}
 use Rattle.tree_definitions.specs.Tree.{FileTree}
 use Rattle.disk_definitions.specs.Allowed.{IsAllowed}
-use Rattle.disk_definitions.specs.Replay.{slots_of}
 use Rattle.line_laws.specs.Laws.{HasPath}
 use Rattle.line_histories.specs.Following.{Follows}
 use Rattle.line_histories.specs.Standing.{StandsNumbered}
@@ -32,7 +29,7 @@ use Rattle.sector_world.specs.Steps.{Run, after}
 use Rattle.sector_world.specs.Steps.Event.{Do, Fetch}
 use Rattle.sector_world.specs.World.{World}
 use Rattle.core_world.specs.Events.{LeadsQuietly, first_world}
-use Rattle.core_world.specs.Journals.{Journal}
+use Rattle.core_world.specs.Journals.{AreZero, Journal}
 use Rattle.core_world.specs.Steps.{IsReached, IsWorldOf}
 use Rattle.core_world.specs.Ties.{AreCached, AreFlying}
 use Rattle.core_commits.specs.Clears.{IsReachedWithAll, LeadsByClears}
@@ -57,11 +54,11 @@ pub record IsOfARun (s : RunMoment) (w : World) (journal : ℕ → Journal) (whe
   pub lines : IsOfLines s.core.setting.segments when first_tree numbers w
   pub sets : SetsAreOfTheDisk s.core
 
--- so it is of the first moment, over a disk with zero logs whose sectors with versions stand for a tree and say covers, kinds and free sectors
+-- so it is of the first moment, over a disk with zero logs of the servers whose sectors with versions stand for a tree and say covers, kinds and free sectors
 abbrev pub FirstMomentsAreOfARun : Type 0
 FirstMomentsAreOfARun =
     (bytes : List ℕ) (script : List Line) (segments run : ℕ) (disk : Sectors) (logged of_files : ℕ → Bool) (home : ℕ → LockId) (journal : ℕ → Journal) (when : ℕ → ℕ) (first_tree : FileTree) (numbers : List ℕ) →
-    script_of bytes ≡ Ok script → IsWholeDisk disk → ((server slot : ℕ) → slot < LOG_SECTORS → slots_of disk server slot ≡ zeros SECTOR_BYTES) → AreTimes when →
+    script_of bytes ≡ Ok script → IsWholeDisk disk → AreZero disk → AreTimes when →
     StandsNumbered segments (first_world disk logged of_files home).opening (record { tree = first_tree; numbers = numbers }) →
     Follows segments (first_world disk logged of_files home).opening home logged (first_world disk logged of_files home).first [] → logged 0 ≡ true →
     IsOfARun (first_state (setting_of script segments run) disk) (first_world disk logged of_files home) journal when first_tree numbers

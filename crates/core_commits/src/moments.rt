@@ -7,7 +7,7 @@ use core_laws::each_key_stands_once;
 use core_world::first_moments_are_worlds;
 use line_locks::covers_of_set_bytes_are_found;
 
-/// The first moment of a run is such a moment, over a disk with zero logs whose sectors with versions stand for a tree.
+/// The first moment of a run is such a moment, over a disk with zero logs of the servers whose sectors with versions stand for a tree.
 pub fn runs_of_lines_begin()
     ensures first { FirstMomentsAreOfARun }
 {

@@ -26,7 +26,7 @@ makes_it : Makes empty_moment (Read (inode_sector ROOT_INODE)) (Got zero_block)
 makes_it = record { can = record { going = refl; can = record { answered = refl; off = refl; landed = refl; free = refl; needed = refl } }; hears = refl }
 
 is_world : FirstMomentsAreWorlds → (journal : ℕ → Journal) → IsWorldOf empty_moment empty_world journal
-is_world first journal = first (setting_of [] 1 1) (λ sector. zero_block) (λ sector. false) (λ sector. false) (λ sector. Node 0) journal (λ server slot below. refl)
+is_world first journal = first (setting_of [] 1 1) (λ sector. zero_block) (λ sector. false) (λ sector. false) (λ sector. Node 0) journal (λ a slot server below. refl)
 
 is_cleared : ClearedAreFree empty_moment.core.servers empty_world
 is_cleared a s cached e dirty plain bare = absurd (none-some cached e)

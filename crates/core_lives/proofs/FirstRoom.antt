@@ -42,8 +42,8 @@ left_within (line ∷ lines) marks a = go (is_open_line a marks line) (left_with
     go false l = omega arith
 
 pub first_room : ((bytes : List ℕ) (script : List Line) → script_of bytes ≡ Ok script → IsScriptText bytes script) → FirstMomentsHaveRoom
-first_room grammar bytes script segments number disk a read zero =
-    low (log_end (slots_of disk a)) (length script) (lines_left script (λ n. false) a) (zero_log_end (slots_of disk a) (λ slot below. zero a slot below))
+first_room grammar bytes script segments number disk a read zero server =
+    low (log_end (slots_of disk a)) (length script) (lines_left script (λ n. false) a) (zero_log_end (slots_of disk a) (λ slot below. zero a slot server below))
     (left_within script (λ n. false) a)
     (few_lines 1 false _ script one (grammar bytes script read).1)
   where

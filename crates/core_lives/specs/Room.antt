@@ -1,9 +1,8 @@
 -- How far logs may still come: a budget of numbers for each line that isn't answered, which each step that is shown here keeps.
 use Rattle.std.specs.Prelude.{◌≡◌, ◌≤◌, ◌<◌, ◌+◌, ◌*◌, ◌^◌, ◌==◌, ℕ, Bool, not, ◌&&◌, if◌then◌else◌, IsTrue, List, Ok, filter, length}
-use Rattle.frang_base.specs.declared.limits.TheConstants.{LOG_IN_FLIGHT_MAX, LOG_SECTORS, SECTOR_BYTES}
+use Rattle.frang_base.specs.declared.limits.TheConstants.{LOG_IN_FLIGHT_MAX}
 use Rattle.frang_base.specs.declared.script.Line.{Line}
 use Rattle.script_definitions.specs.ScriptText.{script_of}
-use Rattle.sector_bytes.specs.Bytes.{zeros}
 use Rattle.sector_bytes.specs.Sectors.{Sectors}
 use Rattle.disk_definitions.specs.Logs.{Slots, log_end}
 use Rattle.disk_definitions.specs.Replay.{slots_of}
@@ -14,7 +13,7 @@ use Rattle.core_definitions.specs.Scripts.{Marks}
 use Rattle.core_definitions.specs.Servers.{Server, is_off}
 use Rattle.core_definitions.specs.Settings.{setting_of}
 use Rattle.sector_world.specs.World.{World}
-use Rattle.core_world.specs.Journals.{Journal}
+use Rattle.core_world.specs.Journals.{AreZero, Journal}
 use Rattle.core_world.specs.Steps.{IsReached, IsWorldOf}
 use Rattle.core_lives.specs.Cleared.{is_shown}
 
@@ -38,11 +37,11 @@ HasRoom s a = reach_of (s.core.servers a) (slots_of s.disk a) + 100 * lines_left
 abbrev pub RoomIsEnough : Type 0
 RoomIsEnough = (s : RunMoment) (a : ℕ) → HasRoom s a → IsTrue (is_off (s.core.servers a).phase) → log_end (slots_of s.disk a) < 2 ^ 62
 
--- at the first moment of a run of a script that was read, over zero logs, there is room
+-- at the first moment of a run of a script that was read, over zero logs of its servers, each of them has room
 abbrev pub FirstMomentsHaveRoom : Type 0
 FirstMomentsHaveRoom =
     (bytes : List ℕ) (script : List Line) (segments number : ℕ) (disk : Sectors) (a : ℕ) → script_of bytes ≡ Ok script →
-    ((server slot : ℕ) → slot < LOG_SECTORS → slots_of disk server slot ≡ zeros SECTOR_BYTES) → HasRoom (first_state (setting_of script segments number) disk) a
+    AreZero disk → IsTrue (is_server a) → HasRoom (first_state (setting_of script segments number) disk) a
 
 -- and the steps that are shown here keep it
 abbrev pub StepsKeepRoom : Type 0

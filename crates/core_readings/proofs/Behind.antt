@@ -34,7 +34,6 @@ use Rattle.core_laws.proofs.Resting.{server_no_host}
 use Rattle.core_laws.specs.Leases.{LeasesEnd}
 use Rattle.core_journals.proofs.FlightChanges.{FlightFrom, Flew, New, turn_flights, turn_now}
 use Rattle.core_journals.proofs.LogBlocks.{written_beside}
-use Rattle.core_journals.proofs.Quiet.{dead_off_not}
 use Rattle.core_journals.specs.Journals.{HaveSameBlocks, IsLog}
 use Rattle.sector_world.specs.World.{World}
 use Rattle.core_world.specs.Journals.{Journal}
@@ -92,8 +91,8 @@ comes s k m one i early d server = go one.1.purpose refl ar.placed
 
 module _ (ends : LeasesEnd) (script : List Line) (segments number : ℕ) (disk : Sectors) (s v : State) (run : Run (first_state (setting_of script segments number) disk) s) (step : Step s v) (t : Turn s (work_of v)) (d : ℕ)
     (server : IsTrue (is_server d)) (j k : Journal) (w u : World) (log : IsLog s d (log_journal j)) (log_then : IsLog v d (log_journal k))
-    (behind : is_off (s.core.servers d).phase ≡ false → IsSealedBehind s w d j) (slots_kept : v.disk ≡ s.disk → is_off (v.core.servers d).phase ≡ false → HaveSameBlocks k.log.slots j.log.slots)
-    (still : IsTrue (is_dead (s.core.servers d).phase) → HasEnded s.core.now (s.core.servers d).expiry → k ≡ j)
+    (behind : is_off (s.core.servers d).phase ≡ false → IsSealedBehind s w d j) (slots_kept : v.disk ≡ s.disk → IsTrue (is_dead (v.core.servers d).phase) → HaveSameBlocks k.log.slots j.log.slots)
+    (still : IsTrue (is_dead (s.core.servers d).phase) → HasEnded s.core.now (s.core.servers d).expiry → HaveSameBlocks k.log.slots j.log.slots)
     (later : IsTrue (is_dead (v.core.servers d).phase) → HasEnded v.core.now (v.core.servers d).expiry → IsReplayed w d → IsReplayed u d)
     (issued : (by sector : ℕ) (write : Write) → CanIssue s.core by sector → value_at (writes s.core by) sector ≡ Some write → write.purpose ≡ OfRecovery → (slot : ℕ) → slot < 256 →
     sector ≡ sector_of (region.Log d slot) → IsReplayed w d) where
@@ -134,7 +133,7 @@ module _ (ends : LeasesEnd) (script : List Line) (segments number : ℕ) (disk :
       unchanged same = go was.stands
         where
           go : HaveSameBlocks (slots_of s.disk d) j.log.slots ⊎ IsReplayed w d → HaveSameBlocks (slots_of v.disk d) k.log.slots ⊎ IsReplayed u d
-          go (inl blocks) = inl (λ slot low. ap (λ x. slots_of x d slot) same ∙ blocks slot low ∙ sym (slots_kept same (dead_off_not (v.core.servers d) dead) slot low))
+          go (inl blocks) = inl (λ slot low. ap (λ x. slots_of x d slot) same ∙ blocks slot low ∙ sym (slots_kept same dead slot low))
           go (inr all) = inr (later dead over all)
 
       came : Came s (work_of v) → HaveSameBlocks (slots_of v.disk d) k.log.slots ⊎ IsReplayed u d
@@ -146,14 +145,14 @@ module _ (ends : LeasesEnd) (script : List Line) (segments number : ℕ) (disk :
           over_before : HasEnded s.core.now (s.core.servers d).expiry
           over_before = subst (λ n. (s.core.servers d).expiry < n) c.beside.now (subst (λ e. e < v.core.now) (c.beside.expiry d) over)
 
-          kept : k ≡ j
+          kept : HaveSameBlocks k.log.slots j.log.slots
           kept = still dead_before over_before
 
           by : (one : ℕ × Flight) → Among one s.core.flights → one.1 ≡ c.flight → Comes s.disk d one.1 → HaveSameBlocks (slots_of v.disk d) k.log.slots ⊎ IsReplayed u d
           by one i is (Apart same) = blocks was.stands
             where
               blocks : HaveSameBlocks (slots_of s.disk d) j.log.slots ⊎ IsReplayed w d → HaveSameBlocks (slots_of v.disk d) k.log.slots ⊎ IsReplayed u d
-              blocks (inl b) = inl (λ slot low. ap (λ x. slots_of x d slot) c.disk ∙ ap (λ (f : Flight). slots_of (written s.disk f.sector f.block) d slot) (sym is) ∙ same slot low ∙ b slot low ∙ ap (λ (x : Journal). x.log.slots slot) (sym kept))
+              blocks (inl b) = inl (λ slot low. ap (λ x. slots_of x d slot) c.disk ∙ ap (λ (f : Flight). slots_of (written s.disk f.sector f.block) d slot) (sym is) ∙ same slot low ∙ b slot low ∙ sym (kept slot low))
               blocks (inr all) = inr (later dead over all)
           by one i is (Own n q server_is) = absurd (apart s.core.now (s.core.servers d).expiry one.1.stamp (subst (λ (f : Flight). s.core.now ≤ f.stamp) (sym is) c.early) within over_before)
             where

@@ -94,10 +94,11 @@ SealsAreIssuedBehind =
     (s : RunMoment) (w : World) (journal : ℕ → Journal) (by sector : ℕ) (write : Write) → IsReached s → IsWorldOf s w journal → Good w → s.core.over ≡ false → CanIssue s.core by sector →
     value_at (writes s.core by) sector ≡ Some write → write.purpose ≡ OfRecovery → (d slot : ℕ) → IsTrue (is_server d) → slot < LOG_SECTORS → sector ≡ sector_of (region.Log d slot) → IsReplayed w d
 
--- what stands so behind a step: the journals change with the disk alone, and that of a dead server whose lease is over not at all; what is in place of such a log stays in place
+-- what stands so behind a step: of who is dead the slots of the journal change with the disk alone, and where its lease is over not at all; what is in place of such a log stays in place. Of one that is
+-- mounted nothing is asked: its log stands as its journal has it, also where a mount begins the journal anew behind a sealed log
 pub record GoesBehind (s v : RunMoment) (w u : World) (journal then : ℕ → Journal) : Type 0 where
-  pub slots : (a : ℕ) → IsTrue (is_server a) → v.disk ≡ s.disk → is_off (v.core.servers a).phase ≡ false → HaveSameBlocks (then a).log.slots (journal a).log.slots
-  pub still : (a : ℕ) → IsTrue (is_server a) → IsTrue (is_dead (s.core.servers a).phase) → HasEnded s.core.now (s.core.servers a).expiry → then a ≡ journal a
+  pub slots : (a : ℕ) → IsTrue (is_server a) → v.disk ≡ s.disk → IsTrue (is_dead (v.core.servers a).phase) → HaveSameBlocks (then a).log.slots (journal a).log.slots
+  pub still : (a : ℕ) → IsTrue (is_server a) → IsTrue (is_dead (s.core.servers a).phase) → HasEnded s.core.now (s.core.servers a).expiry → HaveSameBlocks (then a).log.slots (journal a).log.slots
   pub later : (a : ℕ) → IsTrue (is_server a) → IsTrue (is_dead (v.core.servers a).phase) → HasEnded v.core.now (v.core.servers a).expiry → IsReplayed w a → IsReplayed u a
 
 -- so seals come behind the replay at each step

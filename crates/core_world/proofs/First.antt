@@ -116,7 +116,7 @@ module _ (setting : Setting) (disk : Sectors) (logged of_files : ℕ → Bool) (
 pub first_moments : FirstMomentsAreWorlds
 first_moments setting disk logged of_files home journal zero = record {
   tied = first_tied setting disk logged of_files home;
-  journals = λ a who. rests (slots_of disk a) (sector_log (first_world disk logged of_files home) a) (λ slot below. zero a slot below);
+  journals = λ a who. rests (slots_of disk a) (sector_log (first_world disk logged of_files home) a) (λ slot below. zero a slot who below);
   readings = λ by recovery who i. absurd (cc);
 }
 

@@ -2,12 +2,10 @@
 -- be shown of every run.
 use Rattle.std.specs.Prelude.{◌≡◌, ◌≤◌, ◌<◌, ℕ, Bool, true}
 use Rattle.std.specs.List.{Contains}
-use Rattle.frang_base.specs.declared.limits.TheConstants.{LOG_SECTORS, SECTOR_BYTES, SERVERS}
+use Rattle.frang_base.specs.declared.limits.TheConstants.{SERVERS}
 use Rattle.frang_base.specs.declared.lock.LockId.{LockId}
 use Rattle.frang_base.specs.declared.lock.Mode.{Mode}
-use Rattle.sector_bytes.specs.Bytes.{zeros}
 use Rattle.sector_bytes.specs.Sectors.{Sectors}
-use Rattle.disk_definitions.specs.Replay.{slots_of}
 use Rattle.core_definitions.specs.Cores.{Core}
 use Rattle.core_definitions.specs.Events.{Ask, Die, Give, Nothing, Renew, Tick}
 use Rattle.core_definitions.specs.Flights.{Flight}
@@ -18,7 +16,7 @@ use Rattle.core_definitions.specs.Settings.{Setting}
 use Rattle.sector_world.specs.Kinds.{Good}
 use Rattle.sector_world.specs.Steps as sectors
 use Rattle.sector_world.specs.World.{World, start}
-use Rattle.core_world.specs.Journals.{Journal}
+use Rattle.core_world.specs.Journals.{AreZero, Journal}
 use Rattle.core_world.specs.Quiet.{AllQuiet}
 use Rattle.core_world.specs.Steps.{IsReached, IsWorldOf, Leads}
 
@@ -28,11 +26,11 @@ use Rattle.core_world.specs.Steps.{IsReached, IsWorldOf, Leads}
 abbrev pub first_world : Sectors → (ℕ → Bool) → (ℕ → Bool) → (ℕ → LockId) → World
 first_world disk logged of_files home = sectors.after (start SERVERS disk logged of_files home) (sectors.Renew host_party)
 
--- over zero logs the first moment has it, whichever sectors have versions, are of files, and are under which locks
+-- over zero logs of its servers the first moment has it, whichever sectors have versions, are of files, and are under which locks
 abbrev pub FirstMomentsAreWorlds : Type 0
 FirstMomentsAreWorlds =
     (setting : Setting) (disk : Sectors) (logged of_files : ℕ → Bool) (home : ℕ → LockId) (journal : ℕ → Journal) →
-    ((server slot : ℕ) → slot < LOG_SECTORS → slots_of disk server slot ≡ zeros SECTOR_BYTES) → IsWorldOf (first_state setting disk) (first_world disk logged of_files home) journal
+    AreZero disk → IsWorldOf (first_state setting disk) (first_world disk logged of_files home) journal
 
 -- and it keeps what every event of the theorem on sectors keeps
 abbrev pub FirstMomentsAreGood : Type 0

@@ -4,8 +4,9 @@ use Rattle.std.specs.Prelude.{◌≡◌, ◌≤◌, ◌<◌, ◌+◌, ◌%◌, �
 use Rattle.std.specs.List.{Contains}
 use Rattle.frang_base.specs.Functions.{put}
 use Rattle.frang_base.specs.declared.change.Redo.{Redo}
-use Rattle.frang_base.specs.declared.limits.TheConstants.{LOG_IN_FLIGHT_MAX, LOG_SECTORS}
+use Rattle.frang_base.specs.declared.limits.TheConstants.{LOG_IN_FLIGHT_MAX, LOG_SECTORS, SECTOR_BYTES}
 use Rattle.sector_bytes.specs.Blocks.{Block, version_of}
+use Rattle.sector_bytes.specs.Bytes.{zeros}
 use Rattle.sector_bytes.specs.Sectors.{Sectors}
 use Rattle.disk_definitions.specs.declared.log_sector.LogSector.{LogSector}
 use Rattle.disk_definitions.specs.LogSectors.{log_sector_bytes}
@@ -154,6 +155,10 @@ IsAtRest slots log = record {
 }
 
 -- ---- of all servers
+
+-- the logs of the servers are zero; of what lies at the place of another number's log nothing is said
+abbrev pub AreZero : Sectors → Type 0
+AreZero disk = (a slot : ℕ) → IsTrue (is_server a) → slot < LOG_SECTORS → slots_of disk a slot ≡ zeros SECTOR_BYTES
 
 -- that of a server, by its phase
 abbrev pub IsLogOf : life.Phase → Ring → ℕ → core.Flights → Sectors → SectorLog → ℕ → Journal → Type 0

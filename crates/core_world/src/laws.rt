@@ -5,7 +5,7 @@ ghost use Rattle.core_world.specs.Quiet.{QuietEventsLeaveLogs, QuietRunsGoOn};
 use core_laws::who_rests_has_nothing;
 use core_transcripts::{read_scripts_are_numbered, runs_have_their_faults};
 
-/// Over a disk whose logs are zero the first moment of a run has a world: its sixteen servers are off, and the host, which is never mounted, has a lease. It keeps what
+/// Over a disk where the logs of the servers are zero the first moment of a run has a world: its sixteen servers are off, and the host, which is never mounted, has a lease. It keeps what
 /// every event of the theorem on sectors keeps, and so does each world to which events of it lead.
 pub fn first_moments_are_worlds()
     ensures first { FirstMomentsAreWorlds }

@@ -88,7 +88,7 @@ impl<'a> Walk<'a> {
     // What is said of an option that is given with another that it isn't given with.
     fn apart(&self, form: &OptionForm) -> Option<&'static str> {
         let (other, said) = form.apart?;
-        if self.given.get(other).copied() == Some(true) {
+        if self.is_given(other) {
             Some(said)
         } else {
             None
@@ -138,13 +138,44 @@ impl<'a> Walk<'a> {
         self.at_option(alloc, at, word)
     }
 
+    fn is_given(&self, number: usize) -> bool {
+        self.given.get(number).copied() == Some(true)
+    }
+
+    // What is said of an option that is given without another that it isn't given without.
+    fn alone(&self) -> Option<&'static str> {
+        for form in self.usage.options {
+            if let Some((other, said)) = form.needs
+                && self.is_given(form.number)
+                && !self.is_given(other)
+            {
+                return Some(said);
+            }
+        }
+        None
+    }
+
+    // What is said of two options that both write a file, which alone can be wrong of them where all else is right.
+    fn one_file(&self) -> Option<&'static str> {
+        for form in self.usage.options {
+            if let Some((other, said)) = form.other_file
+                && self.is_given(form.number)
+                && self.is_given(other)
+            {
+                return Some(said);
+            }
+        }
+        None
+    }
+
     // What is wrong where no word is.
     fn at_end(&self, alloc: Global) -> Result<String, NoMemory> {
-        match self.usage.places.get(self.places) {
-            Some(place) => {
-                let name = place.name;
-                Ok(format!(in alloc; "{name} is missing")?)
-            }
+        if let Some(place) = self.usage.places.get(self.places) {
+            let name = place.name;
+            return Ok(format!(in alloc; "{name} is missing")?);
+        }
+        match self.alone().or(self.one_file()) {
+            Some(said) => Ok(format!(in alloc; "{said}")?),
             None => Ok(format!(in alloc; "the words are no command")?),
         }
     }

@@ -1,4 +1,5 @@
 // What each command takes.
+use command_words::READS_MAX;
 use frang_base::limits::SEGMENTS_MAX;
 use script_definitions::number_within;
 
@@ -9,6 +10,7 @@ pub enum Kind {
     Segments,
     Wide,
     Log,
+    Reads,
 }
 
 /// A word that a command takes, or the value of an option: its name, what it may be, and that in words.
@@ -32,18 +34,22 @@ impl Place {
             Kind::Segments => number_within(word.as_bytes(), 1, SEGMENTS_MAX).is_some(),
             Kind::Wide => is_wide(word),
             Kind::Log => number_within(word.as_bytes(), 0, 255).is_some(),
+            Kind::Reads => number_within(word.as_bytes(), 1, READS_MAX).is_some(),
         }
     }
 }
 
 /// How many options there are.
-pub const OPTIONS: usize = 4;
+pub const OPTIONS: usize = 6;
 
-/// An option, its number among all, and that of the option that it isn't given with, where there is one, with what is said of both.
+/// An option, its number among all, and that of the option that it isn't given with, where there is one, and of the one that it isn't given without, each with what is said of both; and that of the
+/// option whose file is another than its own.
 pub struct OptionForm {
     pub place: Place,
     pub number: usize,
     pub apart: Option<(usize, &'static str)>,
+    pub needs: Option<(usize, &'static str)>,
+    pub other_file: Option<(usize, &'static str)>,
 }
 
 /// A command: its name, the words that it takes, and its options.
@@ -94,6 +100,8 @@ const SEGMENTS: OptionForm = OptionForm {
     },
     number: 0,
     apart: Some((1, FRESH_ALONE)),
+    needs: None,
+    other_file: None,
 };
 
 const FROM_IMAGE: OptionForm = OptionForm {
@@ -104,6 +112,8 @@ const FROM_IMAGE: OptionForm = OptionForm {
     },
     number: 1,
     apart: Some((0, FRESH_ALONE)),
+    needs: None,
+    other_file: None,
 };
 
 const SAVE: OptionForm = OptionForm {
@@ -114,6 +124,8 @@ const SAVE: OptionForm = OptionForm {
     },
     number: 2,
     apart: None,
+    needs: None,
+    other_file: None,
 };
 
 const ORDER: OptionForm = OptionForm {
@@ -123,7 +135,35 @@ const ORDER: OptionForm = OptionForm {
         value: "0 to 18446744073709551615",
     },
     number: 3,
+    apart: Some((4, UNORDERED)),
+    needs: None,
+    other_file: None,
+};
+
+const UNORDERED: &str = "--board: for a run on threads, not with --order";
+
+const BOARD: OptionForm = OptionForm {
+    place: Place {
+        name: "--board",
+        kind: Kind::Reads,
+        value: "1 to 1000",
+    },
+    number: 4,
+    apart: Some((3, UNORDERED)),
+    needs: Some((5, "--board: only with --board-to")),
+    other_file: None,
+};
+
+const BOARD_TO: OptionForm = OptionForm {
+    place: Place {
+        name: "--board-to",
+        kind: Kind::Name,
+        value: "a file's name",
+    },
+    number: 5,
     apart: None,
+    needs: Some((4, "--board-to: only with --board")),
+    other_file: Some((2, "--board-to: another file than --save")),
 };
 
 /// The commands, in the order in which the program tells of them.
@@ -131,7 +171,7 @@ pub static USAGES: [Usage; 6] = [
     Usage {
         name: "run",
         places: &[SCRIPT],
-        options: &[FROM_IMAGE, SAVE, ORDER, SEGMENTS],
+        options: &[FROM_IMAGE, SAVE, ORDER, SEGMENTS, BOARD, BOARD_TO],
     },
     Usage {
         name: "recover",

@@ -86,6 +86,13 @@ pub fn make(alloc: Global) -> Result<(Board, Writer, Reader), NoMemory>
 }
 
 impl Writer {
+    /// What it has published last, zeros where nothing.
+    pub fn last(&self) -> Figures
+        ensures { result ≡ last_of self.now.figures }
+    {
+        self.last
+    }
+
     /// Shows these figures from now on, unless one of the numbers is less than the last one published: then nothing changes.
     pub fn publish<R: Wait>(&mut self, rt: &R, board: &Board, figures: Figures) -> Result<(), Back>
         requires { self.old.board ≡ board.now }

@@ -85,6 +85,13 @@ impl<M: Machine, O: Outside, N: Naming> Hall<M, O, N> {
         self.said
     }
 
+    /// The machine that it turns.
+    pub fn machine(&self) -> &M
+        ensures { result.now ≡ self.now.world }
+    {
+        &self.world
+    }
+
     /// Gives the outside back.
     pub fn outside(self) -> O
         ensures { result ≡ self.out }

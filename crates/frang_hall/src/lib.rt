@@ -12,5 +12,5 @@ mod top;
 pub use hall::Hall;
 pub use machine::Machine;
 pub use name::Naming;
-pub use room::{Finish, run_order, run_threads};
+pub use room::{Finish, Locked, Turning, run_order, run_threads, what_came};
 pub use top::{run_drawn, run_machine};

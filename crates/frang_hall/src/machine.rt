@@ -53,9 +53,8 @@ pub trait Machine: Drop {
         ensures drawn { IfOk result (λ found. IfSome found (Drawn (stands self.new) draw)) }
         ensures none { result ≡ Ok None → NoneListed (stands self.new) };
 
-    /// Takes the memory of an event, and says what it asks of the outside.
+    /// Takes the memory of an event, and says what it asks of the outside. It is refused also where the event isn't enabled.
     fn ready(&mut self, event: &Event) -> Result<Call, NoMemory>
-        requires { Listed (stands self.old) event.now }
         ensures same { Same (stands self.old) (stands self.new) }
         ensures ready { IfOk result (IsReady (stands self.new) (has_room self.new) event.now) };
 

@@ -1,4 +1,4 @@
-// The hall behind a lock, and its workers.
+// What workers turn behind a lock, and the hall turned so.
 ghost use Rattle.std.specs.Prelude.{◌<◌};
 ghost use Rattle.hall_runs.specs.Keeping.{Kept};
 ghost use Rattle.frang_hall.specs.Finishing.{Finished};
@@ -21,9 +21,28 @@ pub struct Finish {
     pub said: u64,
 }
 
-// What lies under the lock: the hall, whether some worker wants memory, and how many turns were made, around its type's end.
-struct Room<M: Machine, O: Outside, N: Naming> {
-    hall: Hall<M, O, N>,
+/// What workers turn under a lock: a hall, or one with more beside it. What its type keeps is kept over all turns.
+pub trait Turning {
+    /// A turn of this worker.
+    fn take_turn<R: Wait>(&mut self, rt: &R, worker: u8) -> Result<Turn, NoMemory>;
+
+    /// The line that a turn gave to the gate has passed it.
+    fn pass(&mut self, line: u32);
+}
+
+impl<M: Machine, O: Outside, N: Naming> Turning for Hall<M, O, N> {
+    fn take_turn<R: Wait>(&mut self, _rt: &R, worker: u8) -> Result<Turn, NoMemory> {
+        self.turn(worker)
+    }
+
+    fn pass(&mut self, line: u32) {
+        self.entered(line);
+    }
+}
+
+// What lies under the lock: what is turned, whether some worker wants memory, and how many turns were made, around its type's end.
+struct Room<T: Turning> {
+    turned: T,
     want: bool,
     turns: u64,
 }
@@ -37,16 +56,16 @@ enum Then {
     Leave,
 }
 
-impl<M: Machine, O: Outside, N: Naming> Room<M, O, N> {
+impl<T: Turning> Room<T> {
     // A turn of this worker; none where it found nothing to be done, and no turn was made since.
-    fn turn(&mut self, worker: u8, idle: Option<u64>) -> Then {
+    fn turn<R: Wait>(&mut self, rt: &R, worker: u8, idle: Option<u64>) -> Then {
         if self.want {
             return Then::Leave;
         }
         if idle == Some(self.turns) {
             return Then::Pause { turns: self.turns };
         }
-        match self.hall.turn(worker) {
+        match self.turned.take_turn(rt, worker) {
             Ok(Turn::Did) => {
                 self.turns = self.turns.wrapping_add(1);
                 Then::Again
@@ -66,20 +85,15 @@ impl<M: Machine, O: Outside, N: Naming> Room<M, O, N> {
 
     // A line has passed the gate, and what waited for that may go on.
     fn entered(&mut self, line: u32) {
-        self.hall.entered(line);
+        self.turned.pass(line);
         self.turns = self.turns.wrapping_add(1);
     }
 }
 
-fn work<M: Machine, O: Outside, N: Naming, G: Gate, R: Wait>(
-    rt: &R,
-    room: &Mutex<Room<M, O, N>>,
-    gate: &G,
-    worker: u8,
-) {
+fn work<T: Turning, G: Gate, R: Wait>(rt: &R, room: &Mutex<Room<T>>, gate: &G, worker: u8) {
     let mut idle = None;
     for _ in rt.forever() {
-        let then = room.lock(rt).turn(worker, idle);
+        let then = room.lock(rt).turn(rt, worker, idle);
         idle = None;
         match then {
             Then::Again => {}
@@ -96,6 +110,55 @@ fn work<M: Machine, O: Outside, N: Naming, G: Gate, R: Wait>(
     }
 }
 
+/// What workers turn, behind its lock.
+pub struct Locked<T: Turning> {
+    room: Mutex<Room<T>>,
+}
+
+impl<T: Turning> Locked<T> {
+    /// Puts this behind a lock.
+    pub fn new(turned: T) -> Self {
+        Locked {
+            room: Mutex::new(Room {
+                turned,
+                want: false,
+                turns: 0,
+            }),
+        }
+    }
+
+    /// Has this many workers take turns, until each of them was told the end, or one of them wants memory. A worker calls the gate outside the lock.
+    pub fn run<G: Gate + Sync, R: Threads + Wait + Sync>(&self, rt: &R, workers: u8, gate: &G)
+    where
+        T: Send,
+        requires { 0 < workers }
+    {
+        let mut seats = [0u8; 255];
+        for (seat, number) in seats.iter_mut().zip(0u8..255) {
+            *seat = number;
+        }
+        let room = &self.room;
+        let count = usize::from(workers);
+        thread::for_each_mut(
+            rt,
+            &mut seats[..count],
+            count,
+            &|_, seat: &mut u8| { work(rt, room, gate, *seat) },
+        );
+    }
+
+    /// What was turned.
+    pub fn into_inner(self) -> T {
+        let Locked { room } = self;
+        let Room {
+            turned,
+            want: _,
+            turns: _,
+        } = room.into_inner();
+        turned
+    }
+}
+
 /// Runs the hall by this many workers, and gives it back. A worker calls the gate outside the lock.
 pub fn run_threads<
     M: Machine + Send,
@@ -108,34 +171,18 @@ pub fn run_threads<
     ensures kept { Kept (M.stands result.0.world) N.outset result.0.over result.0.said (O.state result.0.out) }
     ensures finish { Finished result.0.over result.0.said result.1 }
 {
-    let mut seats = [0u8; 255];
-    for (seat, number) in seats.iter_mut().zip(0u8..255) {
-        *seat = number;
-    }
-    let room = Mutex::new(Room {
-        hall,
-        want: false,
-        turns: 0,
-    });
-    let count = usize::from(workers);
-    thread::for_each_mut(
-        rt,
-        &mut seats[..count],
-        count,
-        &|_, seat: &mut u8| { work(rt, &room, gate, *seat) },
-    );
-    let Room {
-        hall,
-        want: _,
-        turns: _,
-    } = room.into_inner();
+    let locked = Locked::new(hall);
+    locked.run(rt, workers, gate);
+    let hall = locked.into_inner();
     hall.shows();
     let finish = what_came(&hall);
     (hall, finish)
 }
 
-// What a run came to.
-fn what_came<M: Machine, O: Outside, N: Naming>(hall: &Hall<M, O, N>) -> Result<Finish, NoMemory>
+/// What a run came to.
+pub fn what_came<M: Machine, O: Outside, N: Naming>(
+    hall: &Hall<M, O, N>,
+) -> Result<Finish, NoMemory>
     ensures { Finished hall.now.over hall.now.said result }
 {
     let said = hall.said();

@@ -13,11 +13,12 @@ use std::rt::Runtime;
 // The kind of an image whose replayed disk stands for no tree.
 const NO_TREE: u32 = 8;
 
-// The files of a command: the script and the image that it reads, and the image that it writes.
+// The files of a command: the script and the image that it reads, and the figures and the image that it writes.
 #[derive(Clone, Copy)]
 struct FilesOf<'a> {
     script: Option<&'a str>,
     image: Option<&'a str>,
+    figures: Option<&'a str>,
     save: Option<&'a str>,
 }
 
@@ -40,6 +41,7 @@ fn files_of_run<'a>(run: &RunCommand<'a>) -> FilesOf<'a> {
     FilesOf {
         script: Some(run.script),
         image,
+        figures: run.board.map(|board| board.file),
         save: run.save,
     }
 }
@@ -58,6 +60,7 @@ fn files_of<'a>(command: &Command<'a>) -> FilesOf<'a> {
     FilesOf {
         script: None,
         image,
+        figures: None,
         save,
     }
 }
@@ -111,6 +114,15 @@ fn unread<R: Runtime>(alloc: Global, rt: &R, name: &str) -> anyhow::Result<Optio
     }
 }
 
+// The file that can't be written, or the two of which one can't.
+fn unwritten(alloc: Global, files: &FilesOf<'_>) -> anyhow::Result<Option<String>> {
+    match (files.figures, files.save) {
+        (Some(figures), Some(save)) => Ok(Some(format!(in alloc; "{figures} or {save}")?)),
+        (Some(name), None) | (None, Some(name)) => Ok(Some(String::from_str(alloc, name)?)),
+        (None, None) => Ok(None),
+    }
+}
+
 // What is wrong with an image that a command reads.
 fn image_fault(alloc: Global, name: &str, status: &Status) -> anyhow::Result<Option<String>> {
     if status.line == NO_TREE {
@@ -127,11 +139,13 @@ fn thing<R: Runtime>(
     files: &FilesOf<'_>,
     status: &Status,
 ) -> anyhow::Result<Option<String>> {
+    if status.code == 7 {
+        return unwritten(alloc, files);
+    }
     let name = match status.code {
         1 => files.script,
         4 | 8 => files.told_by(status),
         6 => files.image,
-        7 => files.save,
         _ => None,
     };
     let Some(name) = name else {

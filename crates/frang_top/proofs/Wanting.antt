@@ -1,17 +1,18 @@
 -- Where memory is short before the words are read, that is the end of whatever they ask.
-use Rattle.std.proofs.Common.{inl, Option, Some, None, List, ℕ, refl}
+use Rattle.std.proofs.Common.{◌≡◌, inl, Option, Some, None, List, ℕ, refl}
 use Rattle.frang_outside.specs.Files.{State as FilesState, Holds}
 use Rattle.frang_outside.specs.Outside.{State}
-use Rattle.command_words.specs.Commands.{Asked, Fsck, ImageAsks, Log, OnImage, Recover, Run, Soak, Tree}
+use Rattle.command_words.specs.Commands.{Asked, BoardAsks, Fsck, ImageAsks, Log, OnImage, Recover, Run, Soak, Tree}
 use Rattle.image_commands.specs.declared.end.ImageEnd.TheVariants as end
-use Rattle.image_commands.specs.Asked.{EndsAsked, LeavesFiles, OnlyWrites}
-use Rattle.image_commands.proofs.EndLaws.{others_same}
+use Rattle.image_commands.specs.Asked.{EndsAsked, LeavesFiles, OnlyWrites, saved_by}
+use Rattle.image_commands.proofs.EndLaws.{others_same, others_stay}
 use Rattle.run_commands.specs.declared.end.RunEnd.{RunEnd}
 use Rattle.run_commands.specs.declared.end.RunEnd.TheVariants as run
 use Rattle.quiet_outside.specs.KeptLines.{NoneTold}
-use Rattle.run_commands.specs.Running.{OnlySaves}
+use Rattle.run_commands.specs.Running.{OnlySaves, StaysBut, file_of}
+use Rattle.run_commands.proofs.Runs.{stays_same}
 use Rattle.frang_top.specs.declared.outcome.Outcome.TheVariants as ends
-use Rattle.frang_top.specs.Top.{HasDone, written_by}
+use Rattle.frang_top.specs.Top.{HasDone, LeavesOthers}
 
 image_wants : (asks : ImageAsks) (files : FilesState) (out : State) → NoneTold out.acts → EndsAsked asks files files out out end.NoMemory
 image_wants (Recover image None) files out nothing = inl nothing
@@ -42,20 +43,28 @@ only_writes : (name : Option (List ℕ)) (holds : Option Holds) → OnlyWrites n
 only_writes None holds = refl
 only_writes (Some name) holds = others_same holds name
 
-pub nothing_written : (asked : Option Asked) (holds : Option Holds) → OnlyWrites (written_by asked) holds holds
-nothing_written asked holds = only_writes (written_by asked) holds
+pub nothing_written : (asked : Option Asked) (holds : Option Holds) → LeavesOthers asked holds holds
+nothing_written None holds = refl
+nothing_written (Some (Run asks)) holds = stays_same (file_of asks.board) asks.save holds holds refl
+nothing_written (Some (OnImage asks)) holds = only_writes (saved_by asks) holds
+nothing_written (Some (Soak number)) holds = refl
 
--- what a run saves is all that it writes
-pub run_writes : (save : Option (List ℕ)) (outcome : RunEnd) (before after : Option Holds) → OnlySaves save outcome before after → OnlyWrites save before after
-run_writes None outcome before after saves = saves
-run_writes (Some name) run.Done before after saves = saves
-run_writes (Some name) run.NoMemory before after saves = saves
-run_writes (Some name) run.WriteFailed before after saves = saves
-run_writes (Some name) run.ScriptFailed before after saves = rw saves (others_same before name)
-run_writes (Some name) run.ScriptTooLong before after saves = rw saves (others_same before name)
-run_writes (Some name) (run.BadScript fault) before after saves = rw saves (others_same before name)
-run_writes (Some name) run.ImageFailed before after saves = rw saves (others_same before name)
-run_writes (Some name) run.ImageTooLong before after saves = rw saves (others_same before name)
-run_writes (Some name) (run.BadImage at kind sector) before after saves = rw saves (others_same before name)
-run_writes (Some name) (run.Mute said) before after saves = rw saves (others_same before name)
-run_writes (Some name) (run.Fault sector) before after saves = rw saves (others_same before name)
+-- where the second file isn't written either
+unsaved : (file save : Option (List ℕ)) (before after : Option Holds) → StaysBut file None before after → StaysBut file save before after
+unsaved file None before after stays = stays
+unsaved None (Some save) before after same = others_stay before after save same
+unsaved (Some file) (Some save) before after stays = (after, stays, others_same after save)
+
+-- what a run writes and saves is all that it writes
+pub run_writes : (board : Option BoardAsks) (save : Option (List ℕ)) (outcome : RunEnd) (before after : Option Holds) → OnlySaves board save outcome before after → StaysBut (file_of board) save before after
+run_writes board save run.Done before after stays = stays
+run_writes board save run.NoMemory before after stays = stays
+run_writes board save run.WriteFailed before after stays = stays
+run_writes board save (run.Fault sector) before after stays = unsaved (file_of board) save before after stays
+run_writes board save run.ScriptFailed before after same = stays_same (file_of board) save before after same
+run_writes board save run.ScriptTooLong before after same = stays_same (file_of board) save before after same
+run_writes board save (run.BadScript fault) before after same = stays_same (file_of board) save before after same
+run_writes board save run.ImageFailed before after same = stays_same (file_of board) save before after same
+run_writes board save run.ImageTooLong before after same = stays_same (file_of board) save before after same
+run_writes board save (run.BadImage at kind sector) before after same = stays_same (file_of board) save before after same
+run_writes board save (run.Mute said) before after same = stays_same (file_of board) save before after same

@@ -59,7 +59,7 @@ sentence s =
     else (if s.code == 4 then codes "the " ++ file_words s.line ++ codes " can't be read"
     else (if s.code == 5 then codes "a line can't be said, after " ++ decimal s.at ++ codes " lines"
     else (if s.code == 6 then codes "image: " ++ fault_sentence s.line s.at s.sector
-    else (if s.code == 7 then codes "the image can't be written"
+    else (if s.code == 7 then codes "a file can't be written"
     else (if s.code == 8 then codes "the " ++ (file_words s.line ++ (codes " has more than " ++ (decimal s.at ++ codes " bytes")))
     else (if s.code == 9 then codes "the disk fails at sector " ++ decimal s.at
     else codes "an unknown status")))))))))

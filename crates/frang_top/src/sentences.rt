@@ -13,7 +13,7 @@ use std::alloc::Global;
 
 /// The commands of the program, a line each: the words, and what they ask.
 pub const COMMANDS: [&str; 6] = [
-    "run SCRIPT [--image F] [--save F] [--order N] [--segments S]  runs a script on the disk of image F, or on a fresh one of S segments, 1 to 64 (else 16), on threads, or in the order of events that N picks, and saves the disk behind it",
+    "run SCRIPT [--image F] [--save F] [--order N] [--segments S] [--board N --board-to F]  runs a script on the disk of image F, or on a fresh one of S segments, 1 to 64 (else 16), on threads, or in the order of events that N picks, and saves the disk behind it; with --board a further thread reads N times, 1 to 1000, while it goes on, how many lines were said, answers, deaths and recoveries, which are written to a file",
     "recover IMAGE [--save F]  says what each log keeps and the tree of the replayed disk, saves it in F",
     "tree IMAGE  says the tree of an image's replayed disk",
     "log IMAGE SERVER  says the records of a log, 0 to 255",
@@ -113,7 +113,7 @@ impl Status {
                 let words = fault.as_str();
                 format!(in alloc; "image: {words}")?
             }
-            7 => format!(in alloc; "the image can't be written")?,
+            7 => format!(in alloc; "a file can't be written")?,
             8 => format!(in alloc; "the {file} has more than {at} bytes")?,
             9 => format!(in alloc; "the disk fails at sector {at}")?,
             _ => format!(in alloc; "an unknown status")?,

@@ -7,7 +7,9 @@ use Rattle.core_definitions.specs.Runs.{State as RunMoment}
 use Rattle.hall_runs.specs.declared.event.End.TheVariants.{Ended}
 use Rattle.hall_runs.specs.Outsets.{IsWithin, Outset, RunsTo}
 use Rattle.hall_runs.proofs.Runs.{fell_trans}
+use Rattle.frang_board.specs.declared.figures.Figures.{Figures}
 use Rattle.hall_scripts.specs.Runs.{Beginning, Ends, Leaves, Stopped, Untouched, Went}
+use Rattle.hall_scripts.specs.Watched.{EndedWatched}
 
 within_later : (before calls now later : ℕ) → IsWithin before calls now → now ≤ later → IsWithin before calls later
 within_later before calls now later within rose = omega (arith, within, rose)
@@ -64,3 +66,11 @@ pub marks_stay : (script : List Line) (from : Beginning) (before after : Outside
 marks_stay script from before after (Untouched same) = ap (λ (o : Outside). o.mark) same
 marks_stay script from before after (Stopped fault stops) = stops.mark
 marks_stay script from before after (Went over ran) = ran.ran.kept.is.runs.fell.mark ∙ ran.ran.puts.mark
+
+-- so is one that was watched, and what was read of it
+pub watched_later : (script : List Line) (from : Beginning) (before now later : Outside) (reads : ℕ) (list : List Figures) → EndedWatched script from before now reads list
+    → SameSectors later.sectors now.sectors → later.acts ≡ now.acts → Follows now later → EndedWatched script from before later reads list
+unfolding ended_later
+watched_later script from before now later reads list ended sectors acts follows =
+    let same : Ends script from before later (Ok tt) = ended_later script from before now later (record { said = ended.said; ran = ended.ran }) sectors acts follows in
+    record { said = ended.said; ran = same.ran; watched = ended.watched }

@@ -38,8 +38,8 @@ fn open_disk<O: Outside>(out: &mut O, disk: StartDisk<'_>) -> Result<(), OpenFau
     }
 }
 
-// The same of an outside that is handed back.
-fn open<O: Outside>(mut out: O, disk: StartDisk<'_>) -> (Result<(), RunFault>, O)
+/// The same of an outside that is handed back.
+pub(crate) fn open<O: Outside>(mut out: O, disk: StartDisk<'_>) -> (Result<(), RunFault>, O)
     requires { IsTrue (may_begin disk) }
     ensures { Opens (beginning_of disk.entry) (O.state out) (O.state result.1) result.0 }
 {
@@ -66,8 +66,8 @@ fn run_in<R: Threads + Wait + Sync, M: Machine + Send, O: Outside + Send, G: Gat
     }
 }
 
-// What a finish tells.
-fn came_to(finish: Result<Finish, NoMemory>) -> Result<(), RunFault>
+/// What a finish tells.
+pub(crate) fn came_to(finish: Result<Finish, NoMemory>) -> Result<(), RunFault>
     ensures { result ≡ came_to finish }
 {
     match finish {

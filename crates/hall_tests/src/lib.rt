@@ -4,5 +4,7 @@
 mod halting;
 #[cfg(test)]
 mod runs;
+#[cfg(test)]
+mod watched;
 
 pub use halting::Halting;

@@ -30,7 +30,7 @@ fn the_word_at_fault_is_found(rt: HostRuntime) -> Result<(), Fail> {
 }
 
 // Words that are no command, what is said of them, and the place of the command that they name, 6 where they name none.
-static WORDS: [(&str, &str, usize); 33] = [
+static WORDS: [(&str, &str, usize); 41] = [
     ("", "a command is missing", 6),
     ("walk s", "walk: no command", 6),
     ("run", "SCRIPT is missing", 0),
@@ -63,6 +63,34 @@ static WORDS: [(&str, &str, usize); 33] = [
     (
         "run s --save -f",
         "--save: its value is missing, or is behind = where it begins with -",
+        0,
+    ),
+    ("run s --board 0 --board-to b", "--board 0: 1 to 1000", 0),
+    (
+        "run s --board 1001 --board-to b",
+        "--board 1001: 1 to 1000",
+        0,
+    ),
+    (
+        "run s --board 4294967296 --board-to b",
+        "--board 4294967296: 1 to 1000",
+        0,
+    ),
+    ("run s --board 3", "--board: only with --board-to", 0),
+    ("run s --board-to b", "--board-to: only with --board", 0),
+    (
+        "run s --board 3 --board-to b --order 1",
+        "--board: for a run on threads, not with --order",
+        0,
+    ),
+    (
+        "run s --order 1 --board 3 --board-to b",
+        "--board: for a run on threads, not with --order",
+        0,
+    ),
+    (
+        "run s --board 3 --board-to b --save b",
+        "--board-to: another file than --save",
         0,
     ),
     ("recover", "IMAGE is missing", 1),

@@ -38,7 +38,7 @@ static ROWS: [(u8, u32, u64, &str); 24] = [
     (4, 1, 0, "the image can't be read"),
     (5, 0, 7, "a line can't be said, after 7 lines"),
     (6, 8, 0, "image: its replayed disk stands for no tree"),
-    (7, 0, 0, "the image can't be written"),
+    (7, 0, 0, "a file can't be written"),
     (8, 0, 1_048_576, "the script has more than 1048576 bytes"),
     (8, 1, 536_870_912, "the image has more than 536870912 bytes"),
     (9, 0, 4_294_967_296, "the disk fails at sector 4294967296"),

@@ -10,7 +10,7 @@ use Rattle.tree_definitions.specs.Tree.{FileTree}
 use Rattle.sector_bytes.specs.Sectors.{sectors_of}
 use Rattle.disk_definitions.specs.Replay.{replayed}
 use Rattle.disk_definitions.specs.Standing.{StandsFor}
-use Rattle.command_words.specs.Commands.{Asks, Image}
+use Rattle.command_words.specs.Commands.{Asks, BoardAsks, Image}
 use Rattle.image_file.specs.Images.{image_in}
 use Rattle.hall_scripts.specs.Runs.{Beginning}
 use Rattle.run_commands.specs.declared.end.RunEnd.{RunEnd}
@@ -20,19 +20,19 @@ use Rattle.image_commands.specs.Ends.{IsNoImage}
 
 module _ (files files_after : FilesState) (out after : State) (fine : NothingFailed files files_after out after) where
   -- a run that was begun
-  begun_fine : (save : Option (List ℕ)) (script : List Line) (from : Beginning) (outcome : RunEnd) → EndsRun save files files_after out after script from outcome → IsDoneOrShort outcome
-  begun_fine save script from end.Done ends = inl refl
-  begun_fine save script from end.NoMemory ends = inr refl
-  begun_fine save script from (end.Mute said) ends = absurd (fine.says ends.0)
-  begun_fine save script from (end.Fault sector) (inl ends) = absurd (fine.host ends.0)
-  begun_fine save script from (end.Fault sector) (inr ends) = absurd (fine.host ends.1)
-  begun_fine save script from end.WriteFailed ends = absurd (fine.writes ends.1)
-  begun_fine save script from end.ScriptFailed ends = absurd ends
-  begun_fine save script from end.ScriptTooLong ends = absurd ends
-  begun_fine save script from (end.BadScript fault) ends = absurd ends
-  begun_fine save script from end.ImageFailed ends = absurd ends
-  begun_fine save script from end.ImageTooLong ends = absurd ends
-  begun_fine save script from (end.BadImage at kind sector) ends = absurd ends
+  begun_fine : (board : Option BoardAsks) (save : Option (List ℕ)) (script : List Line) (from : Beginning) (outcome : RunEnd) → EndsRun board save files files_after out after script from outcome → IsDoneOrShort outcome
+  begun_fine board save script from end.Done ends = inl refl
+  begun_fine board save script from end.NoMemory ends = inr refl
+  begun_fine board save script from (end.Mute said) ends = absurd (fine.says ends.0)
+  begun_fine board save script from (end.Fault sector) (inl ends) = absurd (fine.host ends.0)
+  begun_fine board save script from (end.Fault sector) (inr ends) = absurd (fine.host ends.1)
+  begun_fine board save script from end.WriteFailed ends = absurd (fine.writes ends.1)
+  begun_fine board save script from end.ScriptFailed ends = absurd ends
+  begun_fine board save script from end.ScriptTooLong ends = absurd ends
+  begun_fine board save script from (end.BadScript fault) ends = absurd ends
+  begun_fine board save script from end.ImageFailed ends = absurd ends
+  begun_fine board save script from end.ImageTooLong ends = absurd ends
+  begun_fine board save script from (end.BadImage at kind sector) ends = absurd ends
 
   module _ (asks : Asks) (holds : Holds) (script : IsSomeScript (Some holds) asks.script) (can : CanBegin holds asks.disk) where
     same_bytes : (one two : List ℕ) → holds asks.script ≡ Some one → holds asks.script ≡ Some two → one ≡ two
@@ -97,7 +97,7 @@ module _ (files files_after : FilesState) (out after : State) (fine : NothingFai
 
     run_fine : files.holds ≡ Some holds → (outcome : RunEnd) → HasRun asks files files_after out after outcome → IsDoneOrShort outcome
     run_fine told outcome (WasRefused refused untouched) = refused_fine told outcome refused
-    run_fine told outcome (WasBegun own from is begins left ends) = begun_fine asks.save own from outcome ends
+    run_fine told outcome (WasBegun own from is begins left ends) = begun_fine asks.board asks.save own from outcome ends
 
 pub complete : (asks : Asks) (files files_after : FilesState) (out after : State) (outcome : RunEnd) → HasRun asks files files_after out after outcome → IsComplete asks files files_after out after outcome
 complete asks files files_after out after outcome done holds told script can fine = run_fine files files_after out after fine asks holds script can told outcome done

@@ -1,4 +1,5 @@
 pub mod Completeness
+mod FiguresRead
 pub mod Opened
 pub mod ReadScripts
 pub mod Runs

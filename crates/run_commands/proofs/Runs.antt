@@ -4,19 +4,19 @@ use Rattle.std.proofs.lemmas.Bool.Decides.{nat_tests}
 use Rattle.frang_base.specs.declared.limits.TheConstants.{SEGMENTS_MAX}
 use Rattle.frang_base.specs.declared.script.Line.{Line}
 use Rattle.frang_outside.specs.Outside.{State, Rose}
-use Rattle.frang_outside.specs.Files.{State as FilesState, Holds, NoneFell, OthersStay}
+use Rattle.frang_outside.specs.Files.{State as FilesState, Holds, NoneFell}
 use Rattle.sector_bytes.specs.Blocks.{zero_block}
 use Rattle.sector_bytes.specs.Sectors.{SameSectors, Sectors}
 use Rattle.disk_definitions.specs.FreshDisk.{fresh_param}
 use Rattle.disk_definitions.specs.Params.{param_fits}
 use Rattle.disk_definitions.specs.Regions.{region_of}
 use Rattle.core_definitions.specs.Scripts.{host_party}
-use Rattle.command_words.specs.Commands.{Asks, Image}
+use Rattle.command_words.specs.Commands.{Asks, BoardAsks, Image}
 use Rattle.command_words.specs.Views.{HasSize}
 use Rattle.disk_saving.specs.declared.fault.SaveFault.{SaveFault}
 use Rattle.disk_saving.specs.declared.fault.SaveFault.TheVariants as save
 use Rattle.disk_saving.specs.Saving.{IsSaved, Saves, Unmoved, on_disk}
-use Rattle.image_commands.proofs.EndLaws.{others_same}
+use Rattle.image_commands.proofs.EndLaws.{others_same, others_stay}
 use Rattle.hall_scripts.specs.declared.fault.RunFault.{RunFault}
 use Rattle.hall_scripts.specs.declared.fault.RunFault.TheVariants as run
 use Rattle.hall_scripts.specs.Runs.{Beginning, Ends as EndsScript, Leaves}
@@ -24,7 +24,7 @@ use Rattle.hall_scripts.proofs.Later.{ended_later, no_count_fell}
 use Rattle.hall_scripts.proofs.Results.{leaves}
 use Rattle.run_commands.specs.declared.end.RunEnd.{RunEnd}
 use Rattle.run_commands.specs.declared.end.RunEnd.TheVariants as end
-use Rattle.run_commands.specs.Running.{BeginsFrom, EndsRun, HasRun, IsScript, IsSomeScript, OnlySaves, Refused, WasBegun, WasRefused, run_end}
+use Rattle.run_commands.specs.Running.{BeginsFrom, EndsRun, HasRun, IsScript, IsSomeScript, OnlySaves, Refused, StaysBut, WasBegun, WasRefused, file_of, run_end}
 use Rattle.run_commands.specs.Steps.{OpensImage, ReadsScript, SavesAsked, save_end}
 
 -- a disk that may have so many segments has parameters that fit
@@ -36,7 +36,7 @@ fits segments size =
 
 -- ---- counts
 
-rose_earlier : (before now later : ℕ) → before ≤ now → Rose now later → Rose before later
+pub rose_earlier : (before now later : ℕ) → before ≤ now → Rose now later → Rose before later
 rose_earlier before now later fell rose = omega (arith, fell, rose)
 
 -- ---- the save behind a run
@@ -53,71 +53,71 @@ saved_same holds name segments a b same saved = (saved.0, saved.1, λ sector. sa
 
 module _ (files files_after : FilesState) (script : List Line) (from : Beginning) (out mid : State) (ended : EndsScript script from out mid (Ok tt)) where
   -- all was done in the run, and nothing is saved
-  unsaved : (after : State) → after ≡ mid → EndsRun None files files_after out after script from end.Done
+  unsaved : (after : State) → after ≡ mid → EndsRun None None files files_after out after script from end.Done
   unsaved after same = (subst (λ o. EndsScript script from out o (Ok tt)) (sym same) ended, tt)
 
   module _ (after : State) (name : List ℕ) (unmoved : Unmoved mid after) where
     later : EndsScript script from out after (Ok tt)
     later = ended_later script from out mid after ended unmoved.sectors unmoved.acts unmoved.follows
 
-    saved : (result : Result (Unit {0}) SaveFault) → Saves files files_after mid after from.segments name result → EndsRun (Some name) files files_after out after script from (save_end result)
+    saved : (result : Result (Unit {0}) SaveFault) → Saves files files_after mid after from.segments name result → EndsRun None (Some name) files files_after out after script from (save_end result)
     saved (Ok done) saves = (later, saved_same files_after.holds name from.segments mid.sectors after.sectors (λ sector. sym (unmoved.sectors sector)) saves.1)
     saved (Err (save.Failed sector)) saves =
         inr (later, rose_earlier (out.faults host_party) (mid.faults host_party) (after.faults host_party) ((no_count_fell script from out mid ended).faults host_party) saves.1)
     saved (Err save.WriteFailed) saves = (later, saves.1)
     saved (Err save.NoMemory) saves = inr later
 
-    wrote : (result : Result (Unit {0}) SaveFault) → Saves files files_after mid after from.segments name result → OnlySaves (Some name) (save_end result) files.holds files_after.holds
+    wrote : (result : Result (Unit {0}) SaveFault) → Saves files files_after mid after from.segments name result → OnlySaves None (Some name) (save_end result) files.holds files_after.holds
     wrote (Ok done) saves = saves.0
     wrote (Err (save.Failed sector)) saves = ap (λ (f : FilesState). f.holds) saves.0
     wrote (Err save.WriteFailed) saves = saves.0
     wrote (Err save.NoMemory) saves = saves
 
-  pub save_ends : (asked : Option (List ℕ)) (after : State) (outcome : RunEnd) → SavesAsked asked from.segments files files_after mid after outcome → EndsRun asked files files_after out after script from outcome
-  save_ends None after outcome done = subst (EndsRun None files files_after out after script from) (sym done.0) (unsaved after done.2)
-  save_ends (Some name) after outcome done = subst (EndsRun (Some name) files files_after out after script from) (sym done.1) (saved after name done.2 done.0 done.3)
+  pub save_ends : (asked : Option (List ℕ)) (after : State) (outcome : RunEnd) → SavesAsked asked from.segments files files_after mid after outcome → EndsRun None asked files files_after out after script from outcome
+  save_ends None after outcome done = subst (EndsRun None None files files_after out after script from) (sym done.0) (unsaved after done.2)
+  save_ends (Some name) after outcome done = subst (EndsRun None (Some name) files files_after out after script from) (sym done.1) (saved after name done.2 done.0 done.3)
 
   pub save_leaves : (asked : Option (List ℕ)) (after : State) (outcome : RunEnd) → SavesAsked asked from.segments files files_after mid after outcome → Leaves script from out after
   save_leaves None after outcome done = leaves script from out after (Ok tt) (subst (λ o. EndsScript script from out o (Ok tt)) (sym done.2) ended)
   save_leaves (Some name) after outcome done = leaves script from out after (Ok tt) (later after name done.2)
 
-  pub save_writes : (asked : Option (List ℕ)) (after : State) (outcome : RunEnd) → SavesAsked asked from.segments files files_after mid after outcome → OnlySaves asked outcome files.holds files_after.holds
-  save_writes None after outcome done = ap (λ (f : FilesState). f.holds) done.1
-  save_writes (Some name) after outcome done = subst (λ e. OnlySaves (Some name) e files.holds files_after.holds) (sym done.1) (wrote after name done.2 done.0 done.3)
+  pub save_writes : (asked : Option (List ℕ)) (after : State) (outcome : RunEnd) → SavesAsked asked from.segments files files_after mid after outcome → OnlySaves None asked outcome files.holds files_after.holds
+  save_writes None after outcome done = subst (λ e. OnlySaves None None e files.holds files_after.holds) (sym done.0) (ap (λ (f : FilesState). f.holds) done.1)
+  save_writes (Some name) after outcome done = subst (λ e. OnlySaves None (Some name) e files.holds files_after.holds) (sym done.1) (wrote after name done.2 done.0 done.3)
 
 -- ---- no save
 
 -- a run that stopped
-pub stop_ends : (asked : Option (List ℕ)) (files files_after : FilesState) (out after : State) (script : List Line) (from : Beginning) (fault : RunFault) → EndsScript script from out after (Err fault)
-    → EndsRun asked files files_after out after script from (run_end (Err fault))
-stop_ends asked files files_after out after script from (run.Mute said) ended = ended
-stop_ends asked files files_after out after script from (run.Fault sector) ended = inl ended
-stop_ends asked files files_after out after script from run.NoMemory ended = inl ended
+pub stop_ends : (board : Option BoardAsks) (asked : Option (List ℕ)) (files files_after : FilesState) (out after : State) (script : List Line) (from : Beginning) (fault : RunFault)
+    → EndsScript script from out after (Err fault) → EndsRun board asked files files_after out after script from (run_end (Err fault))
+stop_ends board asked files files_after out after script from (run.Mute said) ended = ended
+stop_ends board asked files files_after out after script from (run.Fault sector) ended = inl ended
+stop_ends board asked files files_after out after script from run.NoMemory ended = inl ended
 
--- where nothing was saved no file changed
-pub nothing_saved : (asked : Option (List ℕ)) (outcome : RunEnd) (before after : Option Holds) → after ≡ before → OnlySaves asked outcome before after
-nothing_saved None outcome before after same = same
-nothing_saved (Some name) outcome before after same = by_end outcome
-  where
-    others : OthersStay before after name
-    others = subst (λ h. OthersStay before h name) (sym same) (others_same before name)
+-- where nothing was written no file changed
+pub stays_same : (file save : Option (List ℕ)) (before after : Option Holds) → after ≡ before → StaysBut file save before after
+stays_same None None before after same = same
+stays_same None (Some save) before after same = others_stay before after save same
+stays_same (Some file) None before after same = others_stay before after file same
+stays_same (Some file) (Some save) before after same = (before, others_same before file, others_stay before after save same)
 
-    by_end : (e : RunEnd) → OnlySaves (Some name) e before after
-    by_end end.Done = others
-    by_end end.NoMemory = others
-    by_end end.WriteFailed = others
-    by_end end.ScriptFailed = same
-    by_end end.ScriptTooLong = same
-    by_end (end.BadScript fault) = same
-    by_end end.ImageFailed = same
-    by_end end.ImageTooLong = same
-    by_end (end.BadImage at kind sector) = same
-    by_end (end.Mute said) = same
-    by_end (end.Fault sector) = same
+pub nothing_saved : (board : Option BoardAsks) (asked : Option (List ℕ)) (outcome : RunEnd) (before after : Option Holds) → after ≡ before → OnlySaves board asked outcome before after
+nothing_saved board asked end.Done before after same = stays_same (file_of board) asked before after same
+nothing_saved board asked end.NoMemory before after same = stays_same (file_of board) asked before after same
+nothing_saved board asked end.WriteFailed before after same = stays_same (file_of board) asked before after same
+nothing_saved board asked (end.Fault sector) before after same = stays_same (file_of board) None before after same
+nothing_saved board asked end.ScriptFailed before after same = same
+nothing_saved board asked end.ScriptTooLong before after same = same
+nothing_saved board asked (end.BadScript fault) before after same = same
+nothing_saved board asked end.ImageFailed before after same = same
+nothing_saved board asked end.ImageTooLong before after same = same
+nothing_saved board asked (end.BadImage at kind sector) before after same = same
+nothing_saved board asked (end.Mute said) before after same = same
 
 -- files as they were before this one was read
-pub saved_earlier : (asked : Option (List ℕ)) (outcome : RunEnd) (before mid after : Option Holds) → mid ≡ before → OnlySaves asked outcome mid after → OnlySaves asked outcome before after
-saved_earlier asked outcome before mid after same = subst (λ h. OnlySaves asked outcome h after) same
+pub saved_earlier : (board : Option BoardAsks) (asked : Option (List ℕ)) (outcome : RunEnd) (before mid after : Option Holds) → mid ≡ before → OnlySaves board asked outcome mid after
+    → OnlySaves board asked outcome before after
+saved_earlier board asked outcome before mid after same = subst (λ h. OnlySaves board asked outcome h after) same
 
 -- ---- refusals
 
@@ -154,19 +154,19 @@ module _ (asks : Asks) (files files_after : FilesState) (script : IsSomeScript f
 
 module _ (files mid files_after : FilesState) (same : mid.holds ≡ files.holds) (fell : NoneFell files mid) (out after : State) where
   -- the image, where the run is begun behind its reading
-  pub ends_earlier : (asked : Option (List ℕ)) (script : List Line) (from : Beginning) (outcome : RunEnd) → EndsRun asked mid files_after out after script from outcome
-      → EndsRun asked files files_after out after script from outcome
-  ends_earlier asked script from end.Done ends = ends
-  ends_earlier asked script from end.NoMemory ends = ends
-  ends_earlier asked script from (end.Mute said) ends = ends
-  ends_earlier asked script from (end.Fault sector) ends = ends
-  ends_earlier asked script from end.WriteFailed ends = (ends.0, rose_earlier files.write_faults mid.write_faults files_after.write_faults fell.writes ends.1)
-  ends_earlier asked script from end.ScriptFailed ends = absurd ends
-  ends_earlier asked script from end.ScriptTooLong ends = absurd ends
-  ends_earlier asked script from (end.BadScript fault) ends = absurd ends
-  ends_earlier asked script from end.ImageFailed ends = absurd ends
-  ends_earlier asked script from end.ImageTooLong ends = absurd ends
-  ends_earlier asked script from (end.BadImage at kind sector) ends = absurd ends
+  pub ends_earlier : (board : Option BoardAsks) (asked : Option (List ℕ)) (script : List Line) (from : Beginning) (outcome : RunEnd) → EndsRun board asked mid files_after out after script from outcome
+      → EndsRun board asked files files_after out after script from outcome
+  ends_earlier board asked script from end.Done ends = ends
+  ends_earlier board asked script from end.NoMemory ends = ends
+  ends_earlier board asked script from (end.Mute said) ends = ends
+  ends_earlier board asked script from (end.Fault sector) ends = ends
+  ends_earlier board asked script from end.WriteFailed ends = (ends.0, rose_earlier files.write_faults mid.write_faults files_after.write_faults fell.writes ends.1)
+  ends_earlier board asked script from end.ScriptFailed ends = absurd ends
+  ends_earlier board asked script from end.ScriptTooLong ends = absurd ends
+  ends_earlier board asked script from (end.BadScript fault) ends = absurd ends
+  ends_earlier board asked script from end.ImageFailed ends = absurd ends
+  ends_earlier board asked script from end.ImageTooLong ends = absurd ends
+  ends_earlier board asked script from (end.BadImage at kind sector) ends = absurd ends
 
   module _ (asks : Asks) where
     -- the script
@@ -186,4 +186,4 @@ module _ (files mid files_after : FilesState) (same : mid.holds ≡ files.holds)
     pub run_earlier : (outcome : RunEnd) → HasRun asks mid files_after out after outcome → HasRun asks files files_after out after outcome
     run_earlier outcome (WasRefused refused untouched) = WasRefused (refused_earlier outcome refused) untouched
     run_earlier outcome (WasBegun script from is begins left ends) =
-        WasBegun script from (subst (λ h. IsScript h asks.script script) same is) (subst (λ h. BeginsFrom h asks.disk from) same begins) left (ends_earlier asks.save script from outcome ends)
+        WasBegun script from (subst (λ h. IsScript h asks.script script) same is) (subst (λ h. BeginsFrom h asks.disk from) same begins) left (ends_earlier asks.board asks.save script from outcome ends)

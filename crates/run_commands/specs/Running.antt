@@ -1,5 +1,7 @@
 -- Why a run of a script ends, and what it leaves: the script and the disk that it is run on, the outside, and the file in which the disk is saved.
-use Rattle.std.specs.Prelude.{◌≡◌, ◌⊎◌, ◌<◌, ◌≤◌, ℕ, Option, Some, None, Result, Ok, Err, List, length}
+use Rattle.std.specs.Prelude.{◌≡◌, ◌⊎◌, ◌<◌, ◌≤◌, ℕ, Option, Some, None, option_map, Result, Ok, Err, List, [], ◌∷◌, ◌++◌, codes, length}
+use Rattle.std.specs.Fmt.{decimal}
+use Rattle.std.specs.List.{flat_map}
 use Rattle.frang_base.specs.declared.limits.TheConstants.{IMAGE_BYTES_MAX, SCRIPT_BYTES_MAX}
 use Rattle.frang_base.specs.declared.script.Line.{Line}
 use Rattle.frang_outside.specs.Outside.{State, Rose}
@@ -15,11 +17,13 @@ use Rattle.core_definitions.specs.Opening.{MayOpen}
 use Rattle.core_definitions.specs.Scripts.{host_party}
 use Rattle.image_file.specs.Images.{Blocks, image_in}
 use Rattle.disk_saving.specs.Saving.{IsSaved}
-use Rattle.command_words.specs.Commands.{AskedDisk, Asks, Fresh, Image}
+use Rattle.command_words.specs.Commands.{AskedDisk, Asks, BoardAsks, Fresh, Image}
+use Rattle.frang_board.specs.declared.figures.Figures.{Figures}
 use Rattle.image_commands.specs.Ends.{HasBytes, IsImageOf, IsNoImage}
 use Rattle.hall_scripts.specs.declared.fault.RunFault.{RunFault}
 use Rattle.hall_scripts.specs.declared.fault.RunFault.TheVariants as run
 use Rattle.hall_scripts.specs.Runs.{Beginning, Ends as EndsScript, Leaves, on_fresh, on_image}
+use Rattle.hall_scripts.specs.Watched.{EndedWatched}
 use Rattle.run_commands.specs.declared.end.RunEnd.{RunEnd}
 use Rattle.run_commands.specs.declared.end.RunEnd.TheVariants as end
 
@@ -80,41 +84,62 @@ Refused asks files files_after (end.BadImage at kind sector) =
     × (IsNoImage files.holds image at kind sector ⊎ ((at ≡ 0) × (kind ≡ 8) × (sector ≡ 0) × IsOfNoTree files.holds image))
 Refused asks files files_after outcome = ⊥
 
+-- four numbers and a line feed: how many lines were said, how many of them are answers, how many tell of a death, and how many of a recovery
+abbrev pub figures_line : Figures → List ℕ
+figures_line f = decimal f.said ++ (codes " " ++ (decimal f.answered ++ (codes " " ++ (decimal f.dead ++ (codes " " ++ (decimal f.recovered ++ 10 ∷ []))))))
+
+abbrev pub figures_text : List Figures → List ℕ
+figures_text list = flat_map figures_line list
+
+-- the run came to its end; where its figures were asked for, they were read of its record, the last behind it, and the file has them, a line each
+abbrev pub EndsRead : Option BoardAsks → Option Holds → List Line → Beginning → State → State → Type 0
+EndsRead None holds script from out after = EndsScript script from out after (Ok tt)
+EndsRead (Some board) holds script from out after = (list : List Figures) × EndedWatched script from out after board.reads list × IsFile holds board.file (λ bytes. bytes ≡ figures_text list)
+
 -- the disk is saved where that is asked
 abbrev pub IsSavedIn : Option (List ℕ) → Option Holds → ℕ → State → Type 0
 IsSavedIn None holds segments out = Unit {0}
 IsSavedIn (Some save) holds segments out = IsSaved holds save segments out.sectors
 
 -- once it is begun: the run came to its end, and the disk is saved where that is asked; a say failed, after so many lines; a put of the opening failed at this sector, or a get or put of the
--- host in the run, or, behind its end, a get of the host for the disk that is saved; memory was wanting, in the run or behind its end; or, behind its end, the file wasn't written
-abbrev pub EndsRun : Option (List ℕ) → FilesState → FilesState → State → State → List Line → Beginning → RunEnd → Type 0
-EndsRun save files files_after out after script from end.Done = EndsScript script from out after (Ok tt) × IsSavedIn save files_after.holds from.segments after
-EndsRun save files files_after out after script from end.NoMemory = EndsScript script from out after (Err run.NoMemory) ⊎ EndsScript script from out after (Ok tt)
-EndsRun save files files_after out after script from (end.Mute said) = EndsScript script from out after (Err (run.Mute said))
-EndsRun save files files_after out after script from (end.Fault sector) =
+-- host in the run, or, behind its end, a get of the host for the disk that is saved; memory was wanting, in the run or behind its end; or, behind its end, a file wasn't written
+abbrev pub EndsRun : Option BoardAsks → Option (List ℕ) → FilesState → FilesState → State → State → List Line → Beginning → RunEnd → Type 0
+EndsRun board save files files_after out after script from end.Done = EndsRead board files_after.holds script from out after × IsSavedIn save files_after.holds from.segments after
+EndsRun board save files files_after out after script from end.NoMemory = EndsScript script from out after (Err run.NoMemory) ⊎ EndsScript script from out after (Ok tt)
+EndsRun board save files files_after out after script from (end.Mute said) = EndsScript script from out after (Err (run.Mute said))
+EndsRun board save files files_after out after script from (end.Fault sector) =
     EndsScript script from out after (Err (run.Fault sector)) ⊎ (EndsScript script from out after (Ok tt) × Rose (out.faults host_party) (after.faults host_party))
-EndsRun save files files_after out after script from end.WriteFailed = EndsScript script from out after (Ok tt) × Rose files.write_faults files_after.write_faults
-EndsRun save files files_after out after script from outcome = ⊥
+EndsRun board save files files_after out after script from end.WriteFailed = EndsScript script from out after (Ok tt) × Rose files.write_faults files_after.write_faults
+EndsRun board save files files_after out after script from outcome = ⊥
 
 -- what a run of a script did: nothing, for a reason; or it was begun, with this script and from this disk, left what the opening puts, or the first of it, and what a run of the core leaves
 -- from there, and ended for a reason
 pub data HasRun (asks : Asks) (files files_after : FilesState) (out after : State) (outcome : RunEnd) : Type 0 where
   WasRefused : Refused asks files files_after outcome → after ≡ out → HasRun asks files files_after out after outcome
   WasBegun : (script : List Line) (from : Beginning) → IsScript files.holds asks.script script → BeginsFrom files.holds asks.disk from → Leaves script from out after
-      → EndsRun asks.save files files_after out after script from outcome → HasRun asks files files_after out after outcome
+      → EndsRun asks.board asks.save files files_after out after script from outcome → HasRun asks files files_after out after outcome
 
 -- ---- the files
 
--- no file changes but the one in which the disk is saved, and that only where the run came to its end
-abbrev pub MaySave : RunEnd → Option Holds → Option Holds → List ℕ → Type 0
-MaySave end.Done before after save = OthersStay before after save
-MaySave end.NoMemory before after save = OthersStay before after save
-MaySave end.WriteFailed before after save = OthersStay before after save
-MaySave outcome before after save = after ≡ before
+-- the file for the figures
+abbrev pub file_of : Option BoardAsks → Option (List ℕ)
+file_of board = option_map (λ b. b.file) board
 
-abbrev pub OnlySaves : Option (List ℕ) → RunEnd → Option Holds → Option Holds → Type 0
-OnlySaves None outcome before after = after ≡ before
-OnlySaves (Some save) outcome before after = MaySave outcome before after save
+-- no file changes but these, where they are asked for, the first before the second
+abbrev pub StaysBut : Option (List ℕ) → Option (List ℕ) → Option Holds → Option Holds → Type 0
+StaysBut None None before after = after ≡ before
+StaysBut None (Some save) before after = OthersStay before after save
+StaysBut (Some file) None before after = OthersStay before after file
+StaysBut (Some file) (Some save) before after = (between : Option Holds) × OthersStay before between file × OthersStay between after save
+
+-- no file changes but the one for the figures and the one in which the disk is saved, and these only where the run came to its end; where a get of the host failed, which may be one for the save,
+-- the second isn't written
+abbrev pub OnlySaves : Option BoardAsks → Option (List ℕ) → RunEnd → Option Holds → Option Holds → Type 0
+OnlySaves board save end.Done before after = StaysBut (file_of board) save before after
+OnlySaves board save end.NoMemory before after = StaysBut (file_of board) save before after
+OnlySaves board save end.WriteFailed before after = StaysBut (file_of board) save before after
+OnlySaves board save (end.Fault sector) before after = StaysBut (file_of board) None before after
+OnlySaves board save outcome before after = after ≡ before
 
 -- ---- where all is there
 

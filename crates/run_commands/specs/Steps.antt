@@ -3,7 +3,8 @@ use Rattle.std.specs.Prelude.{◌≡◌, ◌⊎◌, ◌<◌, ℕ, Option, Some, 
 use Rattle.frang_base.specs.declared.limits.TheConstants.{IMAGE_BYTES_MAX, SCRIPT_BYTES_MAX}
 use Rattle.frang_base.specs.declared.script.Line.{Line}
 use Rattle.frang_outside.specs.Outside.{State, Rose}
-use Rattle.frang_outside.specs.Files.{State as FilesState, IsFile}
+use Rattle.frang_outside.specs.Files.{State as FilesState, IsFile, NoneFell, OthersStay}
+use Rattle.frang_board.specs.declared.figures.Figures.{Figures}
 use Rattle.script_definitions.specs.ScriptText.{script_of}
 use Rattle.tree_definitions.specs.Tree.{FileTree}
 use Rattle.sector_bytes.specs.Sectors.{sectors_of}
@@ -20,7 +21,7 @@ use Rattle.image_commands.specs.Ends.{IsNoImage}
 use Rattle.run_commands.specs.declared.end.RunEnd.{RunEnd}
 use Rattle.run_commands.specs.declared.end.RunEnd.TheVariants as end
 use Rattle.run_commands.specs.declared.images.ImageDisk.{ImageDisk}
-use Rattle.run_commands.specs.Running.{IsNoScript, IsOfNoTree, IsOpenImage, IsScript}
+use Rattle.run_commands.specs.Running.{IsNoScript, IsOfNoTree, IsOpenImage, IsScript, figures_text}
 
 -- the script that bytes are
 abbrev pub GivesScript : List ℕ → Result (List Line) RunEnd → Type 0
@@ -66,6 +67,19 @@ abbrev pub SavesAsked : Option (List ℕ) → ℕ → FilesState → FilesState 
 SavesAsked None segments files files_after out after outcome = (outcome ≡ end.Done) × (files_after ≡ files) × (after ≡ out)
 SavesAsked (Some name) segments files files_after out after outcome =
     (result : Result (Unit {0}) SaveFault) × (outcome ≡ save_end result) × Unmoved out after × Saves files files_after out after segments name result
+
+-- the file has these figures, or it wasn't written, for a reason
+abbrev pub WritesFigures : FilesState → FilesState → List ℕ → List Figures → Result (Unit {0}) RunEnd → Type 0
+WritesFigures files files_after file list (Ok done) = OthersStay files.holds files_after.holds file × IsFile files_after.holds file (λ bytes. bytes ≡ figures_text list)
+WritesFigures files files_after file list (Err end.WriteFailed) = OthersStay files.holds files_after.holds file × Rose files.write_faults files_after.write_faults
+WritesFigures files files_after file list (Err end.NoMemory) = OthersStay files.holds files_after.holds file
+WritesFigures files files_after file list (Err _) = ⊥
+
+-- the figures are written, and behind that the disk is saved where that is asked, or it isn't, for a reason; or they aren't written, and nothing else is done
+pub data WritesAndSaves (file : List ℕ) (list : List Figures) (save : Option (List ℕ)) (segments : ℕ) (files files_after : FilesState) (out after : State) (outcome : RunEnd) : Type 0 where
+  Wrote : (between : FilesState) → WritesFigures files between file list (Ok tt) → NoneFell files between → SavesAsked save segments between files_after out after outcome
+      → WritesAndSaves file list save segments files files_after out after outcome
+  Unwritten : WritesFigures files files_after file list (Err outcome) → after ≡ out → WritesAndSaves file list save segments files files_after out after outcome
 
 -- an end of reading an image, as that of a run
 abbrev pub image_end : ImageEnd → RunEnd

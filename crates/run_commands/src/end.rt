@@ -5,9 +5,9 @@ use script_definitions::ScriptFault;
 /// How a command that runs a script ended.
 #[derive(Clone, Copy, PartialEq, Eq)]
 pub enum RunEnd {
-    /// The run came to its end, and the disk was saved where that was asked.
+    /// The run came to its end, and its figures were written and the disk was saved where that was asked.
     Done,
-    /// Want of memory: before anything, in the run, or where the disk is saved.
+    /// Want of memory: before anything, in the run, or where the figures are written or the disk is saved.
     NoMemory,
     /// The script wasn't read: the call failed, and the count of reads has risen. Nothing was put or said.
     ScriptFailed,
@@ -26,6 +26,6 @@ pub enum RunEnd {
     Mute { said: u64 },
     /// A get or put of the host failed at this sector, in the opening, in the run or where the disk is saved; the count of the host has risen.
     Fault { sector: Sector },
-    /// The run came to its end, and the disk wasn't saved: the call failed, and the count of writes has risen.
+    /// The run came to its end, and its figures weren't written or the disk wasn't saved: the call failed, and the count of writes has risen.
     WriteFailed,
 }

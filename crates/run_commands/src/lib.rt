@@ -4,6 +4,7 @@
 #![tactic(auto)]
 
 mod end;
+mod figures;
 mod images;
 mod running;
 mod scripts;

@@ -29,7 +29,7 @@ bytes_agree : (bytes : List ℕ) (r : Reply) → agrees (answer_of (reply.Shown 
 bytes_agree bytes (reply.Shown others) = sure_show bytes others
 bytes_agree bytes _ = refl
 
-agrees_same : (a r : Reply) → agrees (answer_of a) r ≡ same_reply a r
+pub agrees_same : (a r : Reply) → agrees (answer_of a) r ≡ same_reply a r
 agrees_same (reply.Shown bytes) r = bytes_agree bytes r
 agrees_same _ r = refl
 

@@ -14,8 +14,8 @@ use file_tree::{Step, cells_show};
 use frang_base::{Name, NoMemory, Op, OpNo, Reply};
 use tree_definitions::{Cell, Entry};
 
-// The number of small blocks that are or were a directory's: the one said, else those of the tree.
-fn told_blocks(tree: &Tree, reply: &Reply) -> u32
+/// The number of small blocks that are or were a directory's: the one said, else those of the tree.
+pub fn told_blocks(tree: &Tree, reply: &Reply) -> u32
     ensures { result ≡ told_blocks tree.now reply.now }
 {
     match reply {
@@ -33,8 +33,8 @@ fn shows(cells: &[Cell], reply: &Reply) -> bool
     }
 }
 
-// Whether a read of a path is answered so.
-fn reads(tree: &Tree, path: &[Name], off: u32, len: u32, reply: &Reply) -> bool
+/// Whether a read of a path is answered so.
+pub fn reads(tree: &Tree, path: &[Name], off: u32, len: u32, reply: &Reply) -> bool
     ensures { result ≡ agrees (at_file tree.now (place tree.now path.now) (λ b cells links at. shown tree.now cells off len)).answer reply.now }
 {
     match tree.read_at(path, off, len) {

@@ -100,6 +100,7 @@ fn contents_are(a: &Reply, b: &Reply) -> bool
     }
 }
 
+/// Whether two replies are equal.
 pub fn same_reply(a: &Reply, b: &Reply) -> bool
     ensures { result ≡ same_reply a.now b.now }
 {

@@ -25,7 +25,8 @@ fn may_be_ok(op: &Op) -> bool
     )
 }
 
-fn leaves_tree(op: &Op, reply: &Reply) -> bool
+/// Whether a reply leaves the tree: one that isn't the operation's own, or `ok` to a line without a path.
+pub fn leaves_tree(op: &Op, reply: &Reply) -> bool
     ensures { result ≡ leaves_tree op.now reply.now }
 {
     match reply {
@@ -35,8 +36,8 @@ fn leaves_tree(op: &Op, reply: &Reply) -> bool
     }
 }
 
-// A read with its reply. After `NoMemory` the tree is as before.
-fn read_again(
+/// A read with its reply. After `NoMemory` the tree is as before.
+pub fn read_again(
     tree: &mut Tree,
     path: &[Name],
     off: u32,

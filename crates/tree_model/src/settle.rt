@@ -14,8 +14,8 @@ use frang_base::limits::{FILE_BYTES_MAX, SECTOR_BYTES};
 use frang_base::{NoMemory, OpNo, ServerId};
 use tree_definitions::{Item, Node};
 
-// Whether a server's removal begins at a step: what it lost, after its last mount.
-fn begins_removal(
+/// Whether a server's removal begins at a step: what it lost, after its last mount.
+pub fn begins_removal(
     server: ServerId,
     keeps: OpNo,
     tree: &Tree,
@@ -90,8 +90,8 @@ fn left<'h>(
     Ok(kept)
 }
 
-// The tree at the end of a list of steps.
-fn tree_at_end(opening: &Tree, list: &[Step]) -> Result<Tree, NoMemory>
+/// The tree at the end of a list of steps.
+pub fn tree_at_end(opening: &Tree, list: &[Step]) -> Result<Tree, NoMemory>
     ensures { IfOk result (λ tree. tree ≡ after_all opening.now list.now) }
 {
     let mut tree = opening.try_copy()?;
@@ -163,8 +163,8 @@ fn doubtful(server: ServerId, opening: &Tree, list: &[Step]) -> Result<Vec<CellR
     Ok(runs)
 }
 
-// The list after a recovery: entries are gone, and then cells are in doubt.
-fn recovered<'h>(
+/// The list after a recovery: entries are gone, and then cells are in doubt.
+pub fn recovered<'h>(
     opening: &Tree,
     server: ServerId,
     keeps: OpNo,
@@ -207,8 +207,8 @@ fn settle_all<'h>(
     Ok(())
 }
 
-// The settled history.
-fn settled<'h>(opening: &Tree, history: &'h [Item]) -> Result<Vec<Step<'h>>, NoMemory>
+/// The settled history.
+pub fn settled<'h>(opening: &Tree, history: &'h [Item]) -> Result<Vec<Step<'h>>, NoMemory>
     requires { IsTrue (all_within history.now) }
     ensures { IfOk result (λ steps. steps.items ≡ settled opening.now history.now) }
 {

@@ -13,4 +13,6 @@ returns c =
       image = texts_found c.get_strs-3.result f (codes "image") c.get_strs-3.ensures i;
       save = texts_found c.get_strs-4.result f (codes "save") c.get_strs-4.ensures i;
       order = texts_found c.get_strs-5.result f (codes "order") c.get_strs-5.ensures i;
+      board = texts_found c.get_strs-6.result f (codes "board") c.get_strs-6.ensures i;
+      board_to = texts_found c.get_strs-7.result f (codes "board-to") c.get_strs-7.ensures i;
     }

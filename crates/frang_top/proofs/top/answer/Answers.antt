@@ -1,8 +1,7 @@
 -- By what the words ask.
 use Rattle.std.proofs.Common.{◌≡◌, ◌∙◌, Some, None, ap, refl, sym, subst, option_map, rules}
-use Rattle.image_commands.specs.Asked.{OnlyWrites}
 use Rattle.frang_top.specs.declared.outcome.Outcome.TheVariants as ends
-use Rattle.frang_top.specs.Top.{HasDone, written_by}
+use Rattle.frang_top.specs.Top.{HasDone, LeavesOthers}
 use Rattle.std.specs.Prelude.{map, string_bytes}
 use Rattle.command_words.specs.Commands.{asked_by}
 use Rattle.command_words.specs.Views.{asked_of}
@@ -18,7 +17,7 @@ returns-in-Ok-Some-clause-done g c =
 pub returns-in-Ok-Some-clause-files : goal.returns-in-Ok-Some-clause-files
 returns-in-Ok-Some-clause-files g c =
     let some : c.in-Ok-Some.field-0 ≡ Some c.in-Ok-Some.command = search rules in
-    subst (λ asked. OnlyWrites (written_by asked) (g.F.Files.state c.args.files.now).holds (g.F.Files.state c.do_asked.new.files).holds) (ap (option_map asked_of) (sym some) ∙ c.in-Ok-Some.ensures.is) c.do_asked.ensures.files
+    subst (λ asked. LeavesOthers asked (g.F.Files.state c.args.files.now).holds (g.F.Files.state c.do_asked.new.files).holds) (ap (option_map asked_of) (sym some) ∙ c.in-Ok-Some.ensures.is) c.do_asked.ensures.files
 
 pub returns-in-Ok-None-clause-done : goal.returns-in-Ok-None-clause-done
 returns-in-Ok-None-clause-done g c =

@@ -1,9 +1,8 @@
 -- What a run may write is what it saves.
 use Rattle.std.proofs.Common.{Some, ap, sym, subst}
 use Rattle.command_words.specs.Views.{asked_of, asks_of}
-use Rattle.image_commands.specs.Asked.{OnlyWrites}
 use Rattle.frang_top.specs.declared.outcome.Outcome.TheVariants as ends
-use Rattle.frang_top.specs.Top.{HasDone, written_by}
+use Rattle.frang_top.specs.Top.{HasDone, LeavesOthers}
 use Rattle.frang_top.proofs.Wanting.{run_writes}
 use Rattle.frang_top.proofs.top.do_asked.Goals as goal
 
@@ -18,5 +17,5 @@ pub returns-in-Run-clause-files : goal.returns-in-Run-clause-files
 returns-in-Run-clause-files g c =
     let before = (g.F.Files.state c.args.files.now).holds in
     let after = (g.F.Files.state c.run-ended.new.files).holds in
-    subst (λ asked. OnlyWrites (written_by (Some asked)) before after) (sym (ap asked_of c.in-Run.is))
-    (run_writes (asks_of c.in-Run.asked).save c.run-ended.result.0 before after c.run-ended.ensures.files)
+    subst (λ asked. LeavesOthers (Some asked) before after) (sym (ap asked_of c.in-Run.is))
+    (run_writes (asks_of c.in-Run.asked).board (asks_of c.in-Run.asked).save c.run-ended.result.0 before after c.run-ended.ensures.files)

@@ -1,0 +1,4 @@
+mod Events
+mod Runs
+mod Servers
+mod Soaks

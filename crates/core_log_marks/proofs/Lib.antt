@@ -1,0 +1,10 @@
+pub mod Chains
+pub mod LastRecords
+pub mod Counting
+pub mod Accounting
+pub mod Standing
+pub mod Kept
+pub mod Stops
+pub mod Reports
+pub mod Opening
+pub mod Meeting

@@ -1,0 +1,10 @@
+mod Lives
+mod Naming
+mod Going
+mod Standing
+mod First
+mod Staying
+mod Over
+mod Sealing
+mod BesideWorlds
+mod Empty

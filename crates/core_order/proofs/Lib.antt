@@ -1,0 +1,10 @@
+pub mod Seeing
+pub mod Saying
+pub mod Watching
+pub mod InTurn
+pub mod Surely
+pub mod Naming
+pub mod Others
+pub mod Ordering
+pub mod Beginnings
+pub mod Rising

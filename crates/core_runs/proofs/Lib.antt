@@ -1,0 +1,6 @@
+mod Quiet
+mod Leading
+mod Events
+mod Keeping
+mod Starting
+mod Standing

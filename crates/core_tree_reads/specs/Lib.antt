@@ -1,0 +1,4 @@
+pub mod AtRest
+pub mod Reads
+pub mod Lines
+pub mod Examples

@@ -1,0 +1,14 @@
+mod Starts
+mod Moments
+mod Standing
+mod Replays
+mod Left
+mod Others
+mod Logs
+mod Deaths
+mod AtEnd
+mod Rest
+mod First
+mod Told
+mod Closed
+mod OffLogs

@@ -1,0 +1,9 @@
+pub mod Starts
+pub mod Moments
+pub mod Live
+pub mod Left
+pub mod Replays
+pub mod Rest
+pub mod First
+pub mod Closed
+pub mod OffLogs

@@ -1,0 +1,5 @@
+mod Moments
+mod Along
+mod Prefixes
+mod Asked
+mod Beginnings

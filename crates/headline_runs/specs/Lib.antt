@@ -1,0 +1,4 @@
+pub mod Moments
+pub mod Asked
+pub mod Along
+pub mod Laws

@@ -1,0 +1,3 @@
+pub mod Standing
+pub mod Known
+pub mod Settled

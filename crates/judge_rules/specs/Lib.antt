@@ -1,0 +1,4 @@
+pub mod Verdicts
+pub mod Scripts
+pub mod Judging
+pub mod Texts

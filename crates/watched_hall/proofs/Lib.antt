@@ -1,0 +1,5 @@
+mod Prefixes
+mod Events
+mod Machines
+mod Desks
+mod Finishes
